@@ -7,9 +7,9 @@ ghost use Rattle.orders.specs.Order.{entryOk, entriesOk, listsOk};
 ghost use Rattle.orders.specs.Model.{readsOf, writesOf, recOf, recOk, msgOf, msgOk};
 use crate::Entry;
 use crate::Message;
-use protocol::Name;
 use crate::Order;
 use crate::Record;
+use protocol::Name;
 
 pub fn houses_ok(houses: u8) -> bool
     ensures { λ r. ⌜ r ≡ housesOk houses ⌝ }

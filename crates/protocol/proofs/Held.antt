@@ -95,8 +95,9 @@ module _ (M : Model) where
   unfolding Distinct isIn
   distinct-snoc [] t q n = ((λ h. h), tt)
   distinct-snoc (u ∷ ts) t q n = (
-      (λ h. elim (in-snoc (M .name u) ts t h) [ inl k ↦ q .0 k | inr e ↦ n (in-head u ts (M .name t) (sym e)) ]),
-      distinct-snoc ts t (q .1) (λ h. n (in-tail u ts (M .name t) h)))
+    (λ h. elim (in-snoc (M .name u) ts t h) [ inl k ↦ q .0 k | inr e ↦ n (in-head u ts (M .name t) (sym e)) ]),
+    distinct-snoc ts t (q .1) (λ h. n (in-tail u ts (M .name t) h)),
+  )
 
   pub in-without : (ts : List (M .Order)) (d e : Name) → T (isIn M e (without M d ts)) → T (isIn M e ts)
   in-without ts d e h = let w = mem-of-in e (without M d ts) h in in-of-mem e (w .0) ts (without-mem ts d (w .0) (w .1) .0) (w .2)

@@ -33,7 +33,7 @@ Kept h f = (k : ℕ) × (h .durable ≤ k) × (f ≡ take k (h .file))
 
 -- a name that the house gave away: of an earlier start, or tried in this one
 abbrev pub Past : {M : Model} → House M → Name → Type 0
-Past {M} h d = (d .start < starts M (h .file)) ⊎ ((d .start ≡ starts M (h .file)) × T (h .tried d))
+Past {M} h d = (d .start < starts M (h .file)) ⊎ ((d .start ≡ starts M (h .file)) × T (h .memory .tried d))
 
 -- what a record says
 abbrev pub RecOk : {M : Model} → List (Msg M) → List (M .Order) → ℕ → Rec M → Type 0
@@ -93,9 +93,9 @@ pub record Inv (M : Model) (L : Laws M) (n : ℕ) (s : Net M) : Type 0 where
   pub dones : (t : M .Order) → List·Memᴰ t (s .done) → DoneOk M (s .house) (s .sent) t
   pub serial : SerialAll M (λ i. M .empty) (s .done)
   pub recs : (j : ℕ) (r : Rec M) → List·Memᴰ r (s .house j .file) → RecOk (s .sent) (s .done) j r
-  pub asks : (j : ℕ) (a : Asking M) → List·Memᴰ a (s .house j .asking) → AskOk M (s .sent) (s .done) j (starts M (s .house j .file)) a
-  pub askOnce : (j : ℕ) → OnceAsked M (s .house j .asking)
-  pub tries : (j : ℕ) (d : Name) → T (s .house j .tried d) → KnownName (s .sent) d
+  pub asks : (j : ℕ) (a : Asking M) → List·Memᴰ a (s .house j .memory .asking) → AskOk M (s .sent) (s .done) j (starts M (s .house j .file)) a
+  pub askOnce : (j : ℕ) → OnceAsked M (s .house j .memory .asking)
+  pub tries : (j : ℕ) (d : Name) → T (s .house j .memory .tried d) → KnownName (s .sent) d
   pub good : (j : ℕ) (f : List (Rec M)) → Kept (s .house j) f → Good M L (s .done) j (s .house j .file) f
 
 module _ (M : Model) where
@@ -177,13 +177,13 @@ pub record Change (M : Model) (L : Laws M) (n : ℕ) (s : Net M) (i : ℕ) (h : 
   pub more : (m : Msg M) → List·Memᴰ m (s .sent) → List·Memᴰ m ms
   pub fresh : (m : Msg M) → List·Memᴰ m ms → List·Memᴰ m (s .sent) ⊎ MsgOk n (at M i h (s .house)) (s .done) m
   pub once : Once ms
-  pub nos : (j : ℕ) (a : Asking M) → (j ≡ i → ⊥) → List·Memᴰ a (s .house j .asking) → List·Memᴰ (Told (about M a) false) ms → List·Memᴰ (Told (about M a) false) (s .sent)
+  pub nos : (j : ℕ) (a : Asking M) → (j ≡ i → ⊥) → List·Memᴰ a (s .house j .memory .asking) → List·Memᴰ (Told (about M a) false) ms → List·Memᴰ (Told (about M a) false) (s .sent)
   pub past : (d : Name) → Past (s .house i) d → Past h d
   pub hard : (r : Rec M) → Hard r → List·Memᴰ r (s .house i .file) → List·Memᴰ r (h .file)
   pub recs : (r : Rec M) → List·Memᴰ r (h .file) → RecOk ms (s .done) i r
-  pub asks : (a : Asking M) → List·Memᴰ a (h .asking) → AskOk M ms (s .done) i (starts M (h .file)) a
-  pub askOnce : OnceAsked M (h .asking)
-  pub tries : (d : Name) → T (h .tried d) → KnownName ms d
+  pub asks : (a : Asking M) → List·Memᴰ a (h .memory .asking) → AskOk M ms (s .done) i (starts M (h .file)) a
+  pub askOnce : OnceAsked M (h .memory .asking)
+  pub tries : (d : Name) → T (h .memory .tried d) → KnownName ms d
   pub good : (f : List (Rec M)) → Kept h f → Good M L (s .done) i (h .file) f
 
 module _ (M : Model) (L : Laws M) (n : ℕ) (s : Net M) (i : ℕ) (h : House M) where
@@ -209,9 +209,9 @@ module _ (M : Model) (L : Laws M) (n : ℕ) (s : Net M) (i : ℕ) (h : House M) 
     serial = v .serial;
     recs = at-all M (λ j x. (r : Rec M) → List·Memᴰ r (x .file) → RecOk ms (s .done) j r) i h (s .house) (c .recs)
         (λ j e r k. rec-more M (s .sent) ms (s .done) j r (c .more) (v .recs j r k));
-    asks = at-all M (λ j x. (a : Asking M) → List·Memᴰ a (x .asking) → AskOk M ms (s .done) j (starts M (x .file)) a) i h (s .house) (c .asks)
+    asks = at-all M (λ j x. (a : Asking M) → List·Memᴰ a (x .memory .asking) → AskOk M ms (s .done) j (starts M (x .file)) a) i h (s .house) (c .asks)
         (λ j e a k. ask-more M (s .sent) ms (s .done) j _ a (c .more) (c .nos j a e k) (v .asks j a k));
-    askOnce = at-all M (λ j x. OnceAsked M (x .asking)) i h (s .house) (c .askOnce) (λ j e. v .askOnce j);
-    tries = at-all M (λ j x. (d : Name) → T (x .tried d) → KnownName ms d) i h (s .house) (c .tries) (λ j e d k. known-more M (s .sent) ms d (c .more) (v .tries j d k));
+    askOnce = at-all M (λ j x. OnceAsked M (x .memory .asking)) i h (s .house) (c .askOnce) (λ j e. v .askOnce j);
+    tries = at-all M (λ j x. (d : Name) → T (x .memory .tried d) → KnownName ms d) i h (s .house) (c .tries) (λ j e d k. known-more M (s .sent) ms d (c .more) (v .tries j d k));
     good = at-all M (λ j x. (f : List (Rec M)) → Kept x f → Good M L (s .done) j (x .file) f) i h (s .house) (c .good) (λ j e. v .good j);
   }

@@ -42,7 +42,7 @@ module _ (M : Model) (L : Laws M) (n : ℕ) where
   }
 
   pub step-keeps : (s t : Net M) → Inv M L n s → Step M n s t → Inv M L n t
-  step-keeps s t v (submit _ i b o eh es new) = submit-keeps M L n s v i b o eh es new
+  step-keeps s t v (submit _ i b o ok eh es new) = submit-keeps M L n s v i b o eh es new
   step-keeps s t v (hold _ i b o k may) = hold-keeps M L n s v i o k may
   step-keeps s t v (vote _ i j b d k) = vote-keeps M L n s v i j d k
   step-keeps s t v (rule _ i b a k all) = rule-keeps M L n s v i a k all
@@ -60,7 +60,7 @@ module _ (M : Model) (L : Laws M) (n : ℕ) where
 
   -- no step takes a hard record from a file
   pub step-hard : (s t : Net M) → Reach M n s → Step M n s t → (i : ℕ) (r : Rec M) → Hard r → List·Memᴰ r (s .house i .file) → List·Memᴰ r (t .house i .file)
-  step-hard s t p (submit _ i b o eh es new) = hard-at M L n s i _ (λ r g x. x)
+  step-hard s t p (submit _ i b o ok eh es new) = hard-at M L n s i _ (λ r g x. x)
   step-hard s t p (hold _ i b o k may) = hard-at M L n s i _ (λ r g x. snoc-old (s .house i .file) (Held o) r x)
   step-hard s t p (vote _ i j b d k) = hard-at M L n s i _ (λ r g x. x)
   step-hard s t p (rule _ i b a k all) = hard-at M L n s i _ (λ r g x. snoc-old (s .house i .file) (Ruled (a .order)) r x)
@@ -98,7 +98,7 @@ module _ (M : Model) (L : Laws M) (n : ℕ) where
     pub held-once : (i : ℕ) (t u : M .Order) → List·Memᴰ t (holding M [] (s .house i .file)) → List·Memᴰ u (holding M [] (s .house i .file)) → M .name t ≡ M .name u → t ≡ u
     held-once i t u a b e = v .once t u (known i t a) (known i u b) e
 
-    can-say : (t : M .Order) → List·Memᴰ (Hold t) (s .sent) → (T (asked M (M .name t) (s .house (M .name t .home) .asking)) → ⊥) → (b : Bool) × CanSay M (s .house (M .name t .home)) (M .name t) b
+    can-say : (t : M .Order) → List·Memᴰ (Hold t) (s .sent) → (T (asked M (M .name t) (s .house (M .name t .home) .memory .asking)) → ⊥) → (b : Bool) × CanSay M (s .house (M .name t .home)) (M .name t) b
     can-say t k un = elim (decide (ruled M (M .name t) (s .house (M .name t .home) .file))) [
       | inl r ↦ (true, sayDone r)
       | inr r ↦ elim (v .msgs (Hold t) k .1) [ inl l ↦ (false, sayOld l r) | inr q ↦ (false, sayOver (q .1) un r) ]
@@ -106,12 +106,12 @@ module _ (M : Model) (L : Laws M) (n : ℕ) where
 
     pub answers : (i : ℕ) (t : M .Order) → List·Memᴰ t (holding M [] (s .house i .file)) →
         (M .name t .home < n) ×
-        (((a : Asking M) × List·Memᴰ a (s .house (M .name t .home) .asking) × (a .order ≡ t)) ⊎ ((b : Bool) × CanSay M (s .house (M .name t .home)) (M .name t) b))
+        (((a : Asking M) × List·Memᴰ a (s .house (M .name t .home) .memory .asking) × (a .order ≡ t)) ⊎ ((b : Bool) × CanSay M (s .house (M .name t .home)) (M .name t) b))
     answers i t m =
         let k = known i t m in (
           v .msgs (Hold t) k .0,
-          elim (decide (asked M (M .name t) (s .house (M .name t .home) .asking))) [
-            | inl h ↦ let w = mem-of-asked M (s .house (M .name t .home) .asking) (M .name t) h in
+          elim (decide (asked M (M .name t) (s .house (M .name t .home) .memory .asking))) [
+            | inl h ↦ let w = mem-of-asked M (s .house (M .name t .home) .memory .asking) (M .name t) h in
                 inl (w .0, w .1, v .once (w .0 .order) t (v .asks (M .name t .home) (w .0) (w .1) .known) k (w .2))
             | inr h ↦ inr (can-say t k h)
           ],

@@ -12,7 +12,7 @@ use Rattle.protocol.specs.Model.{Model, sameName, playedAll, SerialAll}
 use Rattle.protocol.specs.Laws.{Laws}
 use Rattle.protocol.specs.Model.{Sees}
 use Rattle.protocol.specs.House.{Rec, Began, Held, Done, Dropped, Ruled, starts, holdNext, holding, stockNext, stock, isIn}
-use Rattle.protocol.specs.Net.{Asking, House, Msg, Hold, Yes, Told, Net, at, wrote, asks, dropAsk, AllYes}
+use Rattle.protocol.specs.Net.{Asking, House, Msg, Hold, Yes, Told, Net, at, wrote, withAsking, dropAsk, AllYes}
 use Rattle.protocol.specs.Sound.{settle}
 use Rattle.protocol.proofs.Basics.{decide, snoc-last, snoc-old, snoc-cases}
 use Rattle.protocol.proofs.Held.{Distinct, in-of-mem, mem-of-in, starts-snoc, held-of-holding, fate}
@@ -44,7 +44,7 @@ module _ (M : Model) where
     undenied = k .undenied;
   }
 
-module _ (M : Model) (L : Laws M) (n : ℕ) (s : Net M) (v : Inv M L n s) (i : ℕ) (a : Asking M) (k : List·Memᴰ a (s .house i .asking)) (all : AllYes M a) where
+module _ (M : Model) (L : Laws M) (n : ℕ) (s : Net M) (v : Inv M L n s) (i : ℕ) (a : Asking M) (k : List·Memᴰ a (s .house i .memory .asking)) (all : AllYes M a) where
   abbrev t : M .Order
   t = a .order
 
@@ -96,7 +96,7 @@ module _ (M : Model) (L : Laws M) (n : ℕ) (s : Net M) (v : Inv M L n s) (i : �
       subst (λ (x : M .Shelves). T (M .seesHere j t x)) (g .level) (settle-rule M L j (s .done) (holding M [] f) t (stock M j f) (g .apart) (g .fits) (holds-at j f g p) (ask .unruled) .1)
 
   abbrev ruling : House M
-  ruling = asks M (dropAsk M (M .name t) (s .house i .asking)) (s .house i .tried) (wrote M (Ruled t) true (s .house i))
+  ruling = withAsking M (dropAsk M (M .name t) (s .house i .memory .asking)) (wrote M (Ruled t) true (s .house i))
 
   same : starts M (s .house i .file ++ (Ruled t ∷ [])) ≡ starts M (s .house i .file)
   same = omega (arith, starts-snoc M (s .house i .file) (Ruled t))
@@ -139,11 +139,11 @@ module _ (M : Model) (L : Laws M) (n : ℕ) (s : Net M) (v : Inv M L n s) (i : �
           | inr e ↦ subst⁻¹ (λ (z : Rec M). RecOk (s .sent) ds i z) e (snoc-last (s .done) t)
         ])
         (λ j e r x. rec-done M (s .sent) (s .done) t j r (v .recs j r x));
-    asks = at-all M (λ j x. (c : Asking M) → List·Memᴰ c (x .asking) → AskOk M (s .sent) ds j (starts M (x .file)) c) i ruling (s .house)
-        (λ c x. let w = drop-mem M (s .house i .asking) (M .name t) c (v .askOnce i) x in ask-done M (s .sent) (s .done) t i _ _ c same (λ e. w .1 (sym e)) (v .asks i c (w .0)))
+    asks = at-all M (λ j x. (c : Asking M) → List·Memᴰ c (x .memory .asking) → AskOk M (s .sent) ds j (starts M (x .file)) c) i ruling (s .house)
+        (λ c x. let w = drop-mem M (s .house i .memory .asking) (M .name t) c (v .askOnce i) x in ask-done M (s .sent) (s .done) t i _ _ c same (λ e. w .1 (sym e)) (v .asks i c (w .0)))
         (λ j e c x. ask-done M (s .sent) (s .done) t j _ _ c refl (λ q. e (sym (v .asks j c x .home) ∙ ap (λ (d : Name). d .home) (sym q) ∙ ask .home)) (v .asks j c x));
-    askOnce = at-all M (λ j x. OnceAsked M (x .asking)) i ruling (s .house) (once-drop M (s .house i .asking) (M .name t) (v .askOnce i)) (λ j e. v .askOnce j);
-    tries = at-all M (λ j x. (d : Name) → T (x .tried d) → KnownName (s .sent) d) i ruling (s .house) (v .tries i) (λ j e. v .tries j);
+    askOnce = at-all M (λ j x. OnceAsked M (x .memory .asking)) i ruling (s .house) (once-drop M (s .house i .memory .asking) (M .name t) (v .askOnce i)) (λ j e. v .askOnce j);
+    tries = at-all M (λ j x. (d : Name) → T (x .memory .tried d) → KnownName (s .sent) d) i ruling (s .house) (v .tries i) (λ j e. v .tries j);
     good = at-all M (λ j x. (f : List (Rec M)) → Kept x f → Good M L ds j (x .file) f) i ruling (s .house)
         (λ f x. let g = good-rule i (s .house i .file) (full M L n s v i) in
         subst⁻¹ (λ (y : List (Rec M)). Good M L ds i (s .house i .file ++ (Ruled t ∷ [])) y) (kept-all M ruling (omega (arith, length-snoc M (s .house i .file) (Ruled t))) f x)

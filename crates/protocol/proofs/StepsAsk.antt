@@ -11,7 +11,7 @@ use Rattle.protocol.specs.declared.Name.{Name}
 use Rattle.protocol.specs.Model.{Model, sameName, playedAll, SerialAll}
 use Rattle.protocol.specs.Laws.{Laws}
 use Rattle.protocol.specs.House.{Rec, Began, Held, Done, Dropped, Ruled, starts, holding, stock, isIn, ruled}
-use Rattle.protocol.specs.Net.{Asking, House, Msg, Hold, Yes, Told, Net, at, nobody, wrote, asks, voted, dropAsk, asked, CanSay, sayDone, sayOld, sayOver}
+use Rattle.protocol.specs.Net.{Asking, House, Msg, Hold, Yes, Told, Net, at, nobody, wrote, withMemory, withAsking, voted, dropAsk, asked, CanSay, sayDone, sayOld, sayOver}
 use Rattle.protocol.proofs.Basics.{or-l, or-r, or-cases, same-eq, same-refl, snoc-cases}
 use Rattle.protocol.proofs.Held.{in-of-mem, mem-of-in, in-head, in-tail, mem-of-ruled, ruled-of-mem}
 use Rattle.protocol.proofs.Asks.{about, OnceAsked, mem-of-asked, asked-of-mem, drop-mem, once-drop, voted-mem, once-voted, once-snoc}
@@ -25,7 +25,7 @@ module _ (M : Model) (L : Laws M) (n : ℕ) (s : Net M) (v : Inv M L n s) where
   pub done-known : (d : Name) → T (isIn M d (s .done)) → (t : M .Order) × List·Memᴰ (Hold t) (s .sent) × (M .name t ≡ d)
   done-known d h = let w = mem-of-in M d (s .done) h in (w .0, v .dones (w .0) (w .1) .known, w .2)
 
-  module _ (i : ℕ) (b : i < n) (t : M .Order) (eh : M .name t .home ≡ i) (es : M .name t .start ≡ starts M (s .house i .file)) (new : T (s .house i .tried (M .name t)) → ⊥) where
+  module _ (i : ℕ) (b : i < n) (t : M .Order) (eh : M .name t .home ≡ i) (es : M .name t .start ≡ starts M (s .house i .file)) (new : T (s .house i .memory .tried (M .name t)) → ⊥) where
     not-past : Past (s .house i) (M .name t) → ⊥
     not-past (inl l) = omega arith
     not-past (inr r) = new (r .1)
@@ -37,7 +37,7 @@ module _ (M : Model) (L : Laws M) (n : ℕ) (s : Net M) (v : Inv M L n s) where
     not-denied k = not-past (subst (λ (x : ℕ). Past (s .house x) (M .name t)) eh (v .msgs (Told (M .name t) false) k .1))
 
     abbrev submitted : House M
-    submitted = asks M (s .house i .asking ++ (record { order = t; yes = nobody M } ∷ [])) (λ d. sameName d (M .name t) || s .house i .tried d) (s .house i)
+    submitted = withMemory M (record { asking = s .house i .memory .asking ++ (record { order = t; yes = nobody M } ∷ []); tried = λ d. sameName d (M .name t) || s .house i .memory .tried d }) (s .house i)
 
     submit-once : Once (Hold t ∷ s .sent)
     submit-once a c p q e = elim (new-hold M (Hold t) (s .sent) a p) [
@@ -66,15 +66,15 @@ module _ (M : Model) (L : Laws M) (n : ℕ) (s : Net M) (v : Inv M L n s) where
       undenied = λ k. elim (new-no M (Hold t) (s .sent) (M .name t) k) [ inl x ↦ x | inr x ↦ not-denied x ];
     }
 
-    submit-asks : (a : Asking M) → List·Memᴰ a (submitted .asking) → AskOk M (Hold t ∷ s .sent) (s .done) i (starts M (s .house i .file)) a
-    submit-asks a k = elim (snoc-cases (s .house i .asking) (record { order = t; yes = nobody M }) a k) [
+    submit-asks : (a : Asking M) → List·Memᴰ a (submitted .memory .asking) → AskOk M (Hold t ∷ s .sent) (s .done) i (starts M (s .house i .file)) a
+    submit-asks a k = elim (snoc-cases (s .house i .memory .asking) (record { order = t; yes = nobody M }) a k) [
       | inr e ↦ subst⁻¹ (λ (x : Asking M). AskOk M (Hold t ∷ s .sent) (s .done) i (starts M (s .house i .file)) x) e submit-new
       | inl r ↦ ask-more M (s .sent) (Hold t ∷ s .sent) (s .done) i _ a (λ m x. List·Memᴰ·tail x)
           (λ x. elim (new-no M (Hold t) (s .sent) (about M a) x) [ inl y ↦ absurd y | inr y ↦ y ]) (v .asks i a r)
     ]
 
-    submit-askOnce : OnceAsked M (submitted .asking)
-    submit-askOnce = once-snoc M (s .house i .asking) _ (v .askOnce i) (λ h. let w = mem-of-asked M (s .house i .asking) (M .name t) h in not-known (w .0 .order) (v .asks i (w .0) (w .1) .known) (w .2))
+    submit-askOnce : OnceAsked M (submitted .memory .asking)
+    submit-askOnce = once-snoc M (s .house i .memory .asking) _ (v .askOnce i) (λ h. let w = mem-of-asked M (s .house i .memory .asking) (M .name t) h in not-known (w .0 .order) (v .asks i (w .0) (w .1) .known) (w .2))
 
     pub submit-keeps : Inv M L n (record { house = at M i submitted (s .house); sent = Hold t ∷ s .sent; done = s .done })
     submit-keeps = change M L n s i submitted (Hold t ∷ s .sent) v (record {
@@ -87,17 +87,17 @@ module _ (M : Model) (L : Laws M) (n : ℕ) (s : Net M) (v : Inv M L n s) where
       recs = λ r k. rec-more M (s .sent) (Hold t ∷ s .sent) (s .done) i r (λ m x. List·Memᴰ·tail x) (v .recs i r k);
       asks = submit-asks;
       askOnce = submit-askOnce;
-      tries = λ d k. elim (or-cases (sameName d (M .name t)) (s .house i .tried d) k) [ inl e ↦ (t, List·Memᴰ·head refl, sym (same-eq d (M .name t) e)) | inr r ↦ known-more M (s .sent) _ d (λ m x. List·Memᴰ·tail x) (v .tries i d r) ];
+      tries = λ d k. elim (or-cases (sameName d (M .name t)) (s .house i .memory .tried d) k) [ inl e ↦ (t, List·Memᴰ·head refl, sym (same-eq d (M .name t) e)) | inr r ↦ known-more M (s .sent) _ d (λ m x. List·Memᴰ·tail x) (v .tries i d r) ];
       good = λ f k. v .good i f k;
     })
 
   module _ (i j : ℕ) (d : Name) (y : List·Memᴰ (Yes j d) (s .sent)) where
     abbrev voting : House M
-    voting = asks M (voted M j d (s .house i .asking)) (s .house i .tried) (s .house i)
+    voting = withAsking M (voted M j d (s .house i .memory .asking)) (s .house i)
 
-    vote-asks : (a : Asking M) → List·Memᴰ a (voting .asking) → AskOk M (s .sent) (s .done) i (starts M (s .house i .file)) a
+    vote-asks : (a : Asking M) → List·Memᴰ a (voting .memory .asking) → AskOk M (s .sent) (s .done) i (starts M (s .house i .file)) a
     vote-asks a k =
-        let w = voted-mem M j d (s .house i .asking) a k in
+        let w = voted-mem M j d (s .house i .memory .asking) a k in
         let q = v .asks i (w .0) (w .1) in
         subst⁻¹ (λ (o : M .Order). AskOk M (s .sent) (s .done) i (starts M (s .house i .file)) (record { order = o; yes = a .yes })) (w .2) (record {
           known = q .known;
@@ -121,14 +121,14 @@ module _ (M : Model) (L : Laws M) (n : ℕ) (s : Net M) (v : Inv M L n s) where
       hard = λ r g k. k;
       recs = v .recs i;
       asks = vote-asks;
-      askOnce = once-voted M j d (s .house i .asking) (v .askOnce i);
+      askOnce = once-voted M j d (s .house i .memory .asking) (v .askOnce i);
       tries = v .tries i;
       good = λ f k. v .good i f k;
     })
 
-  module _ (i : ℕ) (a : Asking M) (k : List·Memᴰ a (s .house i .asking)) where
+  module _ (i : ℕ) (a : Asking M) (k : List·Memᴰ a (s .house i .memory .asking)) where
     abbrev resting : House M
-    resting = asks M (dropAsk M (about M a) (s .house i .asking)) (s .house i .tried) (s .house i)
+    resting = withAsking M (dropAsk M (about M a) (s .house i .memory .asking)) (s .house i)
 
     no-msg : MsgOk n (at M i resting (s .house)) (s .done) (Told (about M a) false)
     no-msg = (v .asks i a k .unruled, past-at M L n s i resting (λ d x. x) (about M a .home) (about M a) (v .msgs (Hold (a .order)) (v .asks i a k .known) .1))
@@ -149,17 +149,17 @@ module _ (M : Model) (L : Laws M) (n : ℕ) (s : Net M) (v : Inv M L n s) where
       past = λ e x. x;
       hard = λ r g x. x;
       recs = λ r x. rec-more M (s .sent) (Told (about M a) false ∷ s .sent) (s .done) i r (λ m z. List·Memᴰ·tail z) (v .recs i r x);
-      asks = λ c x. let w = drop-mem M (s .house i .asking) (about M a) c (v .askOnce i) x in
+      asks = λ c x. let w = drop-mem M (s .house i .memory .asking) (about M a) c (v .askOnce i) x in
           ask-more M (s .sent) (Told (about M a) false ∷ s .sent) (s .done) i _ c (λ m z. List·Memᴰ·tail z)
           (λ z. elim (new-no M (Told (about M a) false) (s .sent) (about M c) z) [ inl g ↦ absurd (w .1 (g .0)) | inr g ↦ g ]) (v .asks i c (w .0));
-      askOnce = once-drop M (s .house i .asking) (about M a) (v .askOnce i);
+      askOnce = once-drop M (s .house i .memory .asking) (about M a) (v .askOnce i);
       tries = λ d x. known-more M (s .sent) _ d (λ m z. List·Memᴰ·tail z) (v .tries i d x);
       good = λ f x. v .good i f x;
     })
 
   module _ (i : ℕ) (d : Name) (eh : d .home ≡ i) where
     -- what may be told without a change of any house
-    pub told-keeps : (b : Bool) → ToldOk (s .house) (s .done) d b → (b ≡ false → (j : ℕ) (a : Asking M) → List·Memᴰ a (s .house j .asking) → about M a ≡ d → ⊥) →
+    pub told-keeps : (b : Bool) → ToldOk (s .house) (s .done) d b → (b ≡ false → (j : ℕ) (a : Asking M) → List·Memᴰ a (s .house j .memory .asking) → about M a ≡ d → ⊥) →
         Inv M L n (record { house = s .house; sent = Told d b ∷ s .sent; done = s .done })
     told-keeps b ok un = subst (λ (x : ℕ → House M). Inv M L n (record { house = x; sent = Told d b ∷ s .sent; done = s .done })) (at-self M i (s .house))
         (change M L n s i (s .house i) (Told d b ∷ s .sent) v (record {
@@ -198,7 +198,7 @@ module _ (M : Model) (L : Laws M) (n : ℕ) (s : Net M) (v : Inv M L n s) where
         let w = v .tries i d t in
         (unruled-undone u, subst (λ (x : Name). Past (s .house (x .home)) x) (w .2) (v .msgs (Hold (w .0)) (w .1) .1))
 
-    answer-un : (b : Bool) → CanSay M (s .house i) d b → b ≡ false → (j : ℕ) (a : Asking M) → List·Memᴰ a (s .house j .asking) → about M a ≡ d → ⊥
+    answer-un : (b : Bool) → CanSay M (s .house i) d b → b ≡ false → (j : ℕ) (a : Asking M) → List·Memᴰ a (s .house j .memory .asking) → about M a ≡ d → ⊥
     answer-un true (sayDone r) e j a k p = v .asks j a k .unruled (subst⁻¹ (λ (x : Name). T (isIn M x (s .done))) p (answer-ok true (sayDone r)))
     answer-un false (sayOld l u) e j a k p =
         let z : j ≡ i = sym (v .asks j a k .home) ∙ ap (λ (x : Name). x .home) p ∙ eh in
@@ -207,7 +207,7 @@ module _ (M : Model) (L : Laws M) (n : ℕ) (s : Net M) (v : Inv M L n s) where
         omega arith
     answer-un false (sayOver t q u) e j a k p =
         let z : j ≡ i = sym (v .asks j a k .home) ∙ ap (λ (x : Name). x .home) p ∙ eh in
-        q (asked-of-mem M (s .house i .asking) a d (subst (λ (x : ℕ). List·Memᴰ a (s .house x .asking)) z k) p)
+        q (asked-of-mem M (s .house i .memory .asking) a d (subst (λ (x : ℕ). List·Memᴰ a (s .house x .memory .asking)) z k) p)
 
     pub answer-keeps : (b : Bool) → CanSay M (s .house i) d b → Inv M L n (record { house = s .house; sent = Told d b ∷ s .sent; done = s .done })
     answer-keeps b c = told-keeps b (answer-ok b c) (answer-un b c)

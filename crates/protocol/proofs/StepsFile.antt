@@ -20,7 +20,7 @@ use Rattle.protocol.proofs.Asks.{about, OnceAsked}
 use Rattle.protocol.proofs.Inv.{Inv, Change, change, Past, Once, MsgOk, ToldOk, RecOk, AskOk, Good, Hard, Kept, kept-full, kept-all, kept-wrote, kept-added, length-snoc, at-here, at-self, new-hold, new-no, ask-more, rec-more, past-at, known-more}
 
 module _ (M : Model) where
-  pub past-same : (h h′ : House M) (d : Name) → starts M (h′ .file) ≡ starts M (h .file) → h′ .tried ≡ h .tried → Past h d → Past h′ d
+  pub past-same : (h h′ : House M) (d : Name) → starts M (h′ .file) ≡ starts M (h .file) → h′ .memory .tried ≡ h .memory .tried → Past h d → Past h′ d
   past-same h h′ d e q (inl l) = inl (omega arith)
   past-same h h′ d e q (inr r) = inr (r .0 ∙ sym e, subst⁻¹ (λ (x : Name → Bool). T (x d)) q (r .1))
 

@@ -11,8 +11,8 @@ use lib.ListN.{length, take, length-append}
 use lib.Seq.{take-nil, take-append-le, take-append-add}
 use Rattle.protocol.specs.Model.{Model}
 use Rattle.protocol.specs.House.{Rec, Began}
-use Rattle.protocol.specs.Exec.{recSize}
-use Rattle.protocol.specs.Micro.{Codec, AllFit, bytes, readOne, readBack}
+use Rattle.protocol.specs.State.{recSize}
+use Rattle.protocol.specs.Crash.{Codec, AllFit, bytes, readOne, readBack}
 
 module _ (M : Model) (C : Codec M) where
   some-bytes : (r : Rec M) → T (C .fits r) → 0 < length (C .put r)

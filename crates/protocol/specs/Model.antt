@@ -9,6 +9,19 @@ use Rattle.protocol.specs.declared.Name.{Name}
 abbrev pub sameName : Name → Name → Bool
 sameName a b = eqb (a .home) (b .home) && eqb (a .start) (b .start) && eqb (a .number) (b .number)
 
+-- limits of a house: orders held back, orders asked about, starts, bytes of its file
+abbrev pub mostHeld : ℕ
+mostHeld = 64
+
+abbrev pub mostAsked : ℕ
+mostAsked = 64
+
+abbrev pub mostStarts : ℕ
+mostStarts = 65535
+
+abbrev pub mostBytes : ℕ
+mostBytes = 4194304
+
 -- the limits of numbers: 1 to 16 houses; a name's home below n, its start from 1 to 65,535, its number at most 65,535
 abbrev pub housesOk : ℕ → Bool
 housesOk n = leb 1 n && leb n 16

@@ -15,12 +15,16 @@ pub record Asking (M : Model) : Type 0 where
   pub order : M .Order
   pub yes : ℕ → Bool
 
--- file: the records; durable: how many are on the disk for good; asking, tried: what the house only has in memory
+-- what a house has only in memory, gone after a stop: the orders that it asks about as their home, and the names tried in this start
+pub record Memory (M : Model) : Type 0 where
+  pub asking : List (Asking M)
+  pub tried : Name → Bool
+
+-- file: the records, the latest last; durable: how many of them are on the disk for good
 pub record House (M : Model) : Type 0 where
   pub file : List (Rec M)
   pub durable : ℕ
-  pub asking : List (Asking M)
-  pub tried : Name → Bool
+  pub memory : Memory M
 
 pub data Msg (M : Model) : Type 0 where
   Hold : M .Order → Msg M
@@ -39,8 +43,12 @@ module _ (M : Model) where
   abbrev pub noName : Name → Bool
   noName d = false
 
+  abbrev pub noMemory : Memory M
+  noMemory = record { asking = []; tried = noName }
+
+  -- a house that began for the first time
   abbrev pub begun : House M
-  begun = record { file = Began ∷ []; durable = 1; asking = []; tried = noName }
+  begun = record { file = Began ∷ []; durable = 1; memory = noMemory }
 
   abbrev pub start : Net M
   start = record { house = λ i. begun; sent = []; done = [] }
@@ -50,13 +58,16 @@ module _ (M : Model) where
 
   -- with the house's file longer by one record; kept says whether all is on the disk for good at once
   abbrev pub wrote : Rec M → Bool → House M → House M
-  wrote r kept h = record { file = h .file ++ (r ∷ []); durable = cond kept (length (h .file ++ (r ∷ []))) (h .durable); asking = h .asking; tried = h .tried }
+  wrote r kept h = record { file = h .file ++ (r ∷ []); durable = cond kept (length (h .file ++ (r ∷ []))) (h .durable); memory = h .memory }
 
-  abbrev pub asks : List (Asking M) → (Name → Bool) → House M → House M
-  asks qs ts h = record { file = h .file; durable = h .durable; asking = qs; tried = ts }
+  abbrev pub withMemory : Memory M → House M → House M
+  withMemory m h = record { file = h .file; durable = h .durable; memory = m }
+
+  abbrev pub withAsking : List (Asking M) → House M → House M
+  withAsking qs h = withMemory (record { asking = qs; tried = h .memory .tried }) h
 
   abbrev pub synced : House M → House M
-  synced h = record { file = h .file; durable = length (h .file); asking = h .asking; tried = h .tried }
+  synced h = record { file = h .file; durable = length (h .file); memory = h .memory }
 
   unfoldable pub voted : ℕ → Name → List (Asking M) → List (Asking M)
   voted j i [] = []
@@ -72,7 +83,7 @@ module _ (M : Model) where
 
   -- the machine stops, comes up with the first k records, and writes down that it began
   abbrev pub restarted : ℕ → House M → House M
-  restarted k h = record { file = take k (h .file) ++ (Began ∷ []); durable = length (take k (h .file) ++ (Began ∷ [])); asking = []; tried = noName }
+  restarted k h = record { file = take k (h .file) ++ (Began ∷ []); durable = length (take k (h .file) ++ (Began ∷ [])); memory = noMemory }
 
   -- every house that the order touches has said yes
   abbrev pub AllYes : Asking M → Type 0
@@ -82,24 +93,24 @@ module _ (M : Model) where
 pub data CanSay (M : Model) (h : House M) (d : Name) : Bool → Type 0 where
   sayDone : T (ruled M d (h .file)) → CanSay M h d true
   sayOld : d .start < starts M (h .file) → (T (ruled M d (h .file)) → ⊥) → CanSay M h d false
-  sayOver : T (h .tried d) → (T (asked M d (h .asking)) → ⊥) → (T (ruled M d (h .file)) → ⊥) → CanSay M h d false
+  sayOver : T (h .memory .tried d) → (T (asked M d (h .memory .asking)) → ⊥) → (T (ruled M d (h .file)) → ⊥) → CanSay M h d false
 
 pub data Step (M : Model) (n : ℕ) : Net M → Net M → Type 0 where
-  submit : (s : Net M) (i : ℕ) → i < n → (t : M .Order) → M .name t .home ≡ i → M .name t .start ≡ starts M (s .house i .file) → (T (s .house i .tried (M .name t)) → ⊥) →
-      Step M n s (record { house = at M i (asks M (s .house i .asking ++ (record { order = t; yes = nobody M } ∷ [])) (λ d. sameName d (M .name t) || s .house i .tried d) (s .house i)) (s .house); sent = Hold t ∷ s .sent; done = s .done })
+  submit : (s : Net M) (i : ℕ) → i < n → (t : M .Order) → T (M .valid n t) → M .name t .home ≡ i → M .name t .start ≡ starts M (s .house i .file) → (T (s .house i .memory .tried (M .name t)) → ⊥) →
+      Step M n s (record { house = at M i (withMemory M (record { asking = s .house i .memory .asking ++ (record { order = t; yes = nobody M } ∷ []); tried = λ d. sameName d (M .name t) || s .house i .memory .tried d }) (s .house i)) (s .house); sent = Hold t ∷ s .sent; done = s .done })
   hold : (s : Net M) (i : ℕ) → i < n → (t : M .Order) → List·Memᴰ (Hold t) (s .sent) → T (mayHold M i t (s .house i .file)) →
       Step M n s (record { house = at M i (wrote M (Held t) true (s .house i)) (s .house); sent = Yes i (M .name t) ∷ s .sent; done = s .done })
   vote : (s : Net M) (i j : ℕ) → i < n → (d : Name) → List·Memᴰ (Yes j d) (s .sent) →
-      Step M n s (record { house = at M i (asks M (voted M j d (s .house i .asking)) (s .house i .tried) (s .house i)) (s .house); sent = s .sent; done = s .done })
-  rule : (s : Net M) (i : ℕ) → i < n → (a : Asking M) → List·Memᴰ a (s .house i .asking) → AllYes M a →
+      Step M n s (record { house = at M i (withAsking M (voted M j d (s .house i .memory .asking)) (s .house i)) (s .house); sent = s .sent; done = s .done })
+  rule : (s : Net M) (i : ℕ) → i < n → (a : Asking M) → List·Memᴰ a (s .house i .memory .asking) → AllYes M a →
       Step M n s (record {
-        house = at M i (asks M (dropAsk M (M .name (a .order)) (s .house i .asking)) (s .house i .tried) (wrote M (Ruled (a .order)) true (s .house i))) (s .house);
+        house = at M i (withAsking M (dropAsk M (M .name (a .order)) (s .house i .memory .asking)) (wrote M (Ruled (a .order)) true (s .house i))) (s .house);
         sent = Told (M .name (a .order)) true ∷ s .sent;
         done = s .done ++ (a .order ∷ []);
       })
-  giveUp : (s : Net M) (i : ℕ) → i < n → (a : Asking M) → List·Memᴰ a (s .house i .asking) →
+  giveUp : (s : Net M) (i : ℕ) → i < n → (a : Asking M) → List·Memᴰ a (s .house i .memory .asking) →
       Step M n s (record {
-        house = at M i (asks M (dropAsk M (M .name (a .order)) (s .house i .asking)) (s .house i .tried) (s .house i)) (s .house);
+        house = at M i (withAsking M (dropAsk M (M .name (a .order)) (s .house i .memory .asking)) (s .house i)) (s .house);
         sent = Told (M .name (a .order)) false ∷ s .sent;
         done = s .done;
       })
