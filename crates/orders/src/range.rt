@@ -4,12 +4,13 @@ ghost use Prim.Native.Nat.{_+_, _*_, _<_, _≤_};
 ghost use mathlib.Core.Bool.{_&&_};
 ghost use Rattle.protocol.specs.Model.{housesOk, nameOk};
 ghost use Rattle.orders.specs.Order.{entryOk, entriesOk, listsOk};
-ghost use Rattle.orders.specs.Model.{readsOf, writesOf, recOf, recOk, msgOf, msgOk};
+ghost use Rattle.orders.specs.Values.{readsOf, writesOf, recOf, msgOf};
+ghost use Rattle.orders.specs.Order.{recOk, msgOk};
 use crate::Entry;
 use crate::Message;
-use protocol::Name;
 use crate::Order;
 use crate::Record;
+use protocol::Name;
 
 pub fn houses_ok(houses: u8) -> bool
     ensures { λ r. ⌜ r ≡ housesOk houses ⌝ }
