@@ -15,11 +15,12 @@ use Rattle.protocol.specs.declared.Name.{Name}
 use Rattle.orders.specs.declared.Order.{Order as Slots}
 use Rattle.protocol.specs.Model.{housesOk, nameOk}
 use Rattle.orders.specs.Order.{entryOk, entriesOk, listsOk, orderOk}
-use Rattle.orders.specs.Model.{readsOf, writesOf, recOk, msgOk}
+use Rattle.orders.specs.Values.{readsOf, writesOf}
+use Rattle.orders.specs.Order.{recOk, msgOk}
 use Rattle.orders.specs.Order.{Order, Rec, Msg}
 use Rattle.protocol.specs.House.{Began, Held, Done, Dropped, Ruled}
 use Rattle.protocol.specs.Net.{Hold, Yes, Told}
-use Rattle.orders.specs.Promise.{FitName, FitEntry, FitEntries, FitOrder, FitRec, FitMsg}
+use Rattle.orders.specs.Laws.{FitName, FitEntry, FitEntries, FitOrder, FitRec, FitMsg}
 use Rattle.orders.proofs.Writing.{length-reads, length-writes}
 
 pub ok-more : (n : ℕ) (xs : List Entry) (i : ℕ) (d : Entry) (b : Bool) → i < length xs → entriesOk n (drop i xs) ≡ entriesOk n xs → b ≡ entryOk n (getD xs i d) → (b && entriesOk n (drop (i + 1) xs)) ≡ entriesOk n xs

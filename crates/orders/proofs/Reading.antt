@@ -12,7 +12,7 @@ use lib.Seq.{getD-drop, drop-drop}
 use mathlib.Core.Logic.{_⊎_, ⊎-elim, inl, inr}
 use Rattle.std.proofs.shelf.Lists.{drop-more, drop-all, take-more-set}
 use Rattle.std.proofs.shelf.Tests.{cases-lt, ne-eqb, le-leb, lt-leb, and-from, and-left, and-right}
-use Rattle.orders.specs.Model.{recOk}
+use Rattle.orders.specs.Order.{recOk}
 use Rattle.orders.specs.Order.{Order, Rec}
 use Rattle.protocol.specs.House.{Began, Held, Done, Dropped, Ruled}
 use Rattle.protocol.specs.declared.Name.{Name}

@@ -11,13 +11,13 @@ use lib.ListN.{length, take, drop, length-append, length-drop, take-append-drop}
 use Rattle.std.proofs.shelf.Tests.{ltb-true, cases-bool, le-leb, eqb-true, and-from, cond-true}
 use Rattle.protocol.specs.declared.Name.{Name}
 use Rattle.orders.specs.declared.Entry.{Entry}
-use Rattle.orders.specs.Model.{recOk, msgOk}
+use Rattle.orders.specs.Order.{recOk, msgOk}
 use Rattle.orders.specs.Order.{Order, Rec, Msg}
 use Rattle.protocol.specs.House.{Began, Held, Done, Dropped, Ruled}
 use Rattle.protocol.specs.Net.{Hold, Yes, Told}
 use Rattle.orders.specs.Parse.{Got, got, cut, bad, bind, byte, number, name, entry, entries, body, order, kind, form, parse, mkind, mform, Taken, taken, refused, exact, wholly, limit, message}
 use Rattle.orders.specs.Encode.{numberBytes, nameBytes, entryBytes, entriesBytes, orderBytes, recBytes, msgBytes}
-use Rattle.orders.specs.Promise.{FitName, FitEntry, FitEntries, FitOrder, FitRec, Bytes, Back, One, Short, More, FitMsg, MsgBack, MsgOne}
+use Rattle.orders.specs.Laws.{FitName, FitEntry, FitEntries, FitOrder, FitRec, Bytes, Back, One, Short, More, FitMsg, MsgBack, MsgOne}
 use Rattle.orders.proofs.Reading.{bind-got}
 use Rattle.orders.proofs.Limits.{rec-fit, msg-fit}
 

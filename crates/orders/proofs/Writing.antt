@@ -18,7 +18,7 @@ use Rattle.orders.specs.declared.Record.{Record}
 use Rattle.orders.specs.declared.Message.{Message}
 use Rattle.orders.specs.declared.Message.the-variants as post
 use Rattle.orders.specs.declared.Record.the-variants as code
-use Rattle.orders.specs.Model.{msgOf, readsOf, writesOf, orderOf, recOf}
+use Rattle.orders.specs.Values.{msgOf, readsOf, writesOf, orderOf, recOf}
 use Rattle.orders.specs.Order.{Order}
 use Rattle.std.specs.declared.result.Result.{Result}
 use Rattle.std.specs.declared.result.Result.the-variants.{Ok, Err}

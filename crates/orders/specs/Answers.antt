@@ -8,7 +8,8 @@ use Rattle.orders.specs.declared.read.Read.{Read}
 use Rattle.orders.specs.declared.read.Read.the-variants.{Whole, Cut, Refused}
 use Rattle.orders.specs.declared.read.MessageRead.{MessageRead}
 use Rattle.orders.specs.declared.read.MessageRead.the-variants as post
-use Rattle.orders.specs.Model.{msgOf, orderOf, recOf, numberOf}
+use Rattle.orders.specs.Values.{msgOf, orderOf, recOf}
+use Rattle.orders.specs.Refusals.{numberOf}
 use Rattle.orders.specs.Order.{Order, Rec}
 use Rattle.orders.specs.Parse.{Got, got, cut, bad, Taken, taken, refused}
 

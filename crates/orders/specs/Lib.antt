@@ -1,7 +1,8 @@
 pub mod Order
-pub mod Model
+pub mod Values
+pub mod Refusals
 pub mod Parse
-pub mod Answers
 pub mod Encode
+pub mod Answers
 pub mod Room
-pub mod Promise
+pub mod Laws

@@ -6,7 +6,7 @@ use lib.Dec.{eqb, ltb, leb}
 use lib.ListN.{length, getD, set, replicate}
 use Rattle.std.specs.shelf.Lists.{folded}
 use Rattle.protocol.specs.declared.Name.{Name}
-use Rattle.protocol.specs.Model.{Model, sameName, nameOk}
+use Rattle.protocol.specs.Model.{Model, sameName, housesOk, nameOk}
 use Rattle.protocol.specs.House as house
 use Rattle.protocol.specs.Net as net
 use Rattle.orders.specs.declared.Entry.{Entry}
@@ -121,3 +121,16 @@ Rec = house.Rec entryModel
 
 abbrev pub Msg : Type 0
 Msg = net.Msg entryModel
+
+-- the limits of all numbers of a record, and of a message, where there are n houses
+abbrev pub recOk : ℕ → Rec → Bool
+recOk n house.Began = housesOk n
+recOk n (house.Held o) = housesOk n && orderOk n o
+recOk n (house.Done d) = housesOk n && nameOk n d
+recOk n (house.Dropped d) = housesOk n && nameOk n d
+recOk n (house.Ruled o) = housesOk n && orderOk n o
+
+abbrev pub msgOk : ℕ → Msg → Bool
+msgOk n (net.Hold o) = housesOk n && orderOk n o
+msgOk n (net.Yes h d) = housesOk n && ltb h n && nameOk n d
+msgOk n (net.Told d b) = housesOk n && nameOk n d

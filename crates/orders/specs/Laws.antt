@@ -6,7 +6,7 @@ use Prim.Native.Nat.{ℕ, _<_, _≤_}
 use lib.ListN.{length, take}
 use Rattle.protocol.specs.declared.Name.{Name}
 use Rattle.orders.specs.declared.Entry.{Entry}
-use Rattle.orders.specs.Model.{recOk, msgOk}
+use Rattle.orders.specs.Order.{recOk, msgOk}
 use Rattle.orders.specs.Order.{Order, Rec, Msg}
 use Rattle.protocol.specs.House.{Began, Held, Done, Dropped, Ruled}
 use Rattle.protocol.specs.Net.{Hold, Yes, Told}
