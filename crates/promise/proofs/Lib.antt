@@ -1,0 +1,4 @@
+pub mod OrderLaws
+pub mod Keys
+pub mod Promises
+pub mod Tables

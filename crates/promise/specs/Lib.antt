@@ -1,0 +1,4 @@
+pub mod Promise
+pub mod Case
+pub mod Cases
+pub mod Limits
