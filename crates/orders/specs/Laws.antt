@@ -1,67 +1,55 @@
--- What is promised of the bytes as a whole. Each is a type; a proof of the type is the theorem. Assumes nothing.
+-- The laws of the bytes of one record and of one message. Each is a type; a proof of the type is the theorem. Assumes nothing.
 use mathlib.Core.Path.{_≡_}
 use mathlib.Core.Bool.{true}
 use mathlib.Core.List.{List, [], _∷_, _++_}
-use Prim.Native.Nat.{ℕ, _<_, _≤_}
+use Prim.Native.Nat.{ℕ, _<_}
 use lib.ListN.{length, take}
-use Rattle.protocol.specs.declared.Name.{Name}
-use Rattle.orders.specs.declared.Entry.{Entry}
-use Rattle.orders.specs.Order.{recOk, msgOk}
-use Rattle.orders.specs.Order.{Order, Rec, Msg}
-use Rattle.protocol.specs.House.{Began, Held, Done, Dropped, Ruled}
-use Rattle.protocol.specs.Net.{Hold, Yes, Told}
-use Rattle.orders.specs.Parse.{got, cut, parse, taken, message}
+use Rattle.protocol.specs.Exec.{recSize}
+use Rattle.orders.specs.Order.{Rec, Msg, entryModel, recOk, msgOk}
+use Rattle.orders.specs.Parse.{got, cut, bad, parse, taken, refused, message}
 use Rattle.orders.specs.Encode.{recBytes, msgBytes}
 
--- the numbers fit their bytes
-abbrev pub FitName : Name → Type 0
-FitName m = (m .home < 256) × (m .start < 4294967296) × (m .number < 4294967296)
-
-abbrev pub FitEntry : Entry → Type 0
-FitEntry e = (e .key < 4294967296) × (e .amount < 4294967296)
-
-abbrev pub FitEntries : List Entry → Type 0
-FitEntries [] = Unit {0}
-FitEntries (e ∷ es) = FitEntry e × FitEntries es
-
-abbrev pub FitOrder : Order → Type 0
-FitOrder o = FitName (o .name) × (length (o .reads) ≤ 16) × (length (o .writes) ≤ 16) × FitEntries (o .reads) × FitEntries (o .writes)
-
-abbrev pub FitRec : Rec → Type 0
-FitRec Began = Unit {0}
-FitRec (Held o) = FitOrder o
-FitRec (Done m) = FitName m
-FitRec (Dropped m) = FitName m
-FitRec (Ruled o) = FitOrder o
-
+-- numbers below 256
 abbrev pub Bytes : List ℕ → Type 0
 Bytes [] = Unit {0}
 Bytes (b ∷ bs) = (b < 256) × Bytes bs
 
--- what was written is read back, and what follows it is left
-abbrev pub Back : Type 0
-Back = (n : ℕ) (r : Rec) (rest : List ℕ) → recOk n r ≡ true → parse n (recBytes r ++ rest) ≡ got r rest
+-- what was written is read back, and the bytes behind it are left
+abbrev pub ReadsBack : Type 0
+ReadsBack = (n : ℕ) (r : Rec) (rest : List ℕ) → recOk n r ≡ true → parse n (recBytes r ++ rest) ≡ got r rest
 
--- each record has one form
-abbrev pub One : Type 0
-One = (n : ℕ) (bs rest : List ℕ) (r : Rec) → Bytes bs → parse n bs ≡ got r rest → bs ≡ recBytes r ++ rest
+-- whatever is read is the encoding of what it gave: each record has one form
+abbrev pub OneForm : Type 0
+OneForm = (n : ℕ) (bs rest : List ℕ) (r : Rec) → Bytes bs → parse n bs ≡ got r rest → bs ≡ recBytes r ++ rest
 
--- what ends inside a record is cut
-abbrev pub Short : Type 0
-Short = (n : ℕ) (r : Rec) (k : ℕ) → recOk n r ≡ true → k < length (recBytes r) → parse n (take k (recBytes r)) ≡ cut
+-- every part from the front of an encoding that isn't all of it is cut
+abbrev pub CutShort : Type 0
+CutShort = (n : ℕ) (r : Rec) (k : ℕ) → recOk n r ≡ true → k < length (recBytes r) → parse n (take k (recBytes r)) ≡ cut
 
 -- bytes added behind a whole record change nothing of it
-abbrev pub More : Type 0
-More = (n : ℕ) (bs rest more : List ℕ) (r : Rec) → parse n bs ≡ got r rest → parse n (bs ++ more) ≡ got r (rest ++ more)
+abbrev pub MoreBehind : Type 0
+MoreBehind = (n : ℕ) (bs rest more : List ℕ) (r : Rec) → parse n bs ≡ got r rest → parse n (bs ++ more) ≡ got r (rest ++ more)
 
-abbrev pub FitMsg : Msg → Type 0
-FitMsg (Hold o) = FitOrder o
-FitMsg (Yes h m) = (h < 256) × FitName m
-FitMsg (Told m b) = FitName m
+-- bytes added behind what is refused by its form, or as a whole record, don't mend it
+abbrev pub StaysRefused : Type 0
+StaysRefused = (n k : ℕ) (bs more : List ℕ) → parse n bs ≡ bad k → parse n (bs ++ more) ≡ bad k
 
--- the same of messages: what was written is read, and only that
-abbrev pub MsgBack : Type 0
-MsgBack = (n : ℕ) (m : Msg) → msgOk n m ≡ true → message n (msgBytes m) ≡ taken m
+-- a record has as many bytes as the network counts for it
+abbrev pub Sized : Type 0
+Sized = (r : Rec) → length (recBytes r) ≡ recSize entryModel r
 
-abbrev pub MsgOne : Type 0
-MsgOne = (n : ℕ) (bs : List ℕ) (m : Msg) → Bytes bs → message n bs ≡ taken m → bs ≡ msgBytes m
+-- a message that was written is read
+abbrev pub MessageReadsBack : Type 0
+MessageReadsBack = (n : ℕ) (m : Msg) → msgOk n m ≡ true → message n (msgBytes m) ≡ taken m
+
+-- whatever is read as a message is the encoding of what it gave
+abbrev pub MessageOneForm : Type 0
+MessageOneForm = (n : ℕ) (bs : List ℕ) (m : Msg) → Bytes bs → message n bs ≡ taken m → bs ≡ msgBytes m
+
+-- a message that is cut short is of a bad form
+abbrev pub MessageCutShort : Type 0
+MessageCutShort = (n : ℕ) (m : Msg) (k : ℕ) → msgOk n m ≡ true → k < length (msgBytes m) → message n (take k (msgBytes m)) ≡ refused 1
+
+-- so is one with bytes behind it
+abbrev pub MessageMoreBehind : Type 0
+MessageMoreBehind = (n : ℕ) (m : Msg) (b : ℕ) (bs : List ℕ) → msgOk n m ≡ true → message n (msgBytes m ++ b ∷ bs) ≡ refused 1

@@ -6,3 +6,4 @@ pub mod Encode
 pub mod Answers
 pub mod Room
 pub mod Laws
+pub mod File
