@@ -4,7 +4,7 @@ use mathlib.Core.Bool.{true}
 use mathlib.Core.List.{List, [], _∷_, _++_}
 use Prim.Native.Nat.{ℕ, _<_}
 use lib.ListN.{length, take}
-use Rattle.protocol.specs.Exec.{recSize}
+use Rattle.protocol.specs.State.{recSize}
 use Rattle.orders.specs.Order.{Rec, Msg, entryModel, recOk, msgOk}
 use Rattle.orders.specs.Parse.{got, cut, bad, parse, taken, refused, message}
 use Rattle.orders.specs.Encode.{recBytes, msgBytes}

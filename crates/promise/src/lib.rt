@@ -1,5 +1,6 @@
 // The promise of the whole exchange: a function for each group of theorems, whose contract states them.
 ghost use Rattle.promise.specs.Cases.{AllRows};
+ghost use Rattle.promise.specs.Crash.{LedgerCodec, LedgerFits, MainStopped, Accepts, OneStep};
 ghost use Rattle.promise.specs.Limits.{AllRefusals, AllFull};
 ghost use Rattle.promise.specs.Promise.{Main, MainRun, Parts, Always, OnRuns, Kept, KeptRun, Faithful, Replays, Lawful, Opens};
 
@@ -27,6 +28,17 @@ pub fn steps_stand() -> u8
     ensures replays { λ _. ⌜ Replays ⌝ }
     ensures lawful { λ _. ⌜ Lawful ⌝ }
     ensures opens { λ _. ⌜ Opens ⌝ }
+{
+    0
+}
+
+// Where machines stop at any moment, inside a record too, nothing comes about that whole steps don't make.
+pub fn stops_stand() -> u8
+    ensures codec { λ _. ⌜ LedgerCodec ⌝ }
+    ensures covered { λ _. ⌜ MainStopped ⌝ }
+    ensures fits { λ _. ⌜ LedgerFits ⌝ }
+    ensures accepts { λ _. ⌜ Accepts ⌝ }
+    ensures one { λ _. ⌜ OneStep ⌝ }
 {
     0
 }

@@ -9,9 +9,9 @@ use Prim.Native.Nat.{ℕ, zero, suc, _+_, _≤_, _<_}
 use lib.Dec.{eqb, leb, T}
 use lib.ListN.{length, take}
 use Rattle.protocol.specs.declared.Name.{Name}
-use Rattle.protocol.specs.Model.{Model, housesOk, mostStarts}
+use Rattle.protocol.specs.Model.{Model, housesOk, nameOk, mostStarts}
 use Rattle.protocol.specs.Laws.{Laws}
-use Rattle.protocol.specs.House.{Rec, Began, starts}
+use Rattle.protocol.specs.House.{Rec, Began, Held, Done, Dropped, Ruled, starts}
 use Rattle.protocol.specs.Net.{Memory, House, Msg, Net, start, begun, noMemory, synced, withMemory}
 use Rattle.protocol.specs.State.{recSize, fileSize}
 use Rattle.protocol.specs.Plan.{Input, Verdict, refused, does, Output, Work, speak, plan, worked, noRoom}
@@ -184,6 +184,17 @@ InterruptedAt M = (C : Codec M) (n : ℕ) (m : System M) → T (housesOk n) → 
 
 abbrev pub Interrupted : Type 1
 Interrupted = (M : Model) → Laws M → InterruptedAt M
+
+-- records of valid orders and of names in range can be written
+pub record FitsValid (M : Model) (C : Codec M) (n : ℕ) : Type 0 where
+  pub orders : (t : M .Order) → T (M .valid n t) → T (C .fits (Held t)) × T (C .fits (Ruled t))
+  pub names : (d : Name) → T (nameOk n d) → T (C .fits (Done d)) × T (C .fits (Dropped d))
+
+-- then whatever comes to a house that has nothing left to do can be taken: what `accept` asks of the records always holds
+abbrev pub AcceptsAt : Model → Type 0
+AcceptsAt M =
+    (C : Codec M) (n : ℕ) (m : System M) → T (housesOk n) → FitsValid M C n → Occurs M C n m →
+    (i : ℕ) → i < n → m .process i .pending ≡ [] → (xs : List (Input M)) → AllTaken M n xs (m .posted) → AllFit C (batch M i xs (m .process i .state) .out .adds)
 
 -- one step by itself: wherever its machine stops, it finds what it could have found after a stop before the step, or after the whole of it
 abbrev pub OneStepAt : Model → Type 0
