@@ -16,6 +16,7 @@ use Rattle.protocol.specs.Net.{Told}
 use Rattle.protocol.specs.Run as run
 use Rattle.protocol.specs.State as state
 use Rattle.protocol.specs.Opens as opens
+use Rattle.protocol.specs.Exact as exact
 use Rattle.orders.specs.declared.Entry.{Entry}
 use Rattle.orders.specs.Order.{Order, Rec, houseOf, itemOf, touches, clash, party, entryModel}
 
@@ -169,6 +170,10 @@ pub record Parts (For : (ℕ → Net → Type 0) → Type 0) : Type 0 where
 -- a command that is done is a step of the relation, and one that is refused changes nothing
 abbrev pub Faithful : Type 0
 Faithful = run.FaithfulAt entryModel
+
+-- a house does a step whenever it may
+abbrev pub Exact : Type 0
+Exact = exact.ExactAt entryModel
 
 -- a house's state is the replay of its file, record by record
 abbrev pub Replays : Type 0

@@ -2,7 +2,7 @@
 ghost use Rattle.promise.specs.Cases.{AllRows};
 ghost use Rattle.promise.specs.Crash.{LedgerCodec, LedgerFits, MainStopped, Accepts, OneStep};
 ghost use Rattle.promise.specs.Limits.{AllRefusals, AllFull};
-ghost use Rattle.promise.specs.Promise.{Main, MainRun, Parts, Always, OnRuns, Kept, KeptRun, Faithful, Replays, Lawful, Opens};
+ghost use Rattle.promise.specs.Promise.{Main, MainRun, Parts, Always, OnRuns, Kept, KeptRun, Faithful, Exact, Replays, Lawful, Opens};
 
 // The rulings in their order are serial, and the shelves are what they left: for the relation, and for every list of commands.
 pub fn whole_stands() -> u8
@@ -22,9 +22,10 @@ pub fn parts_stand() -> u8
     0
 }
 
-// The steps as functions are steps of the relation; a house's state is its file's replay; every file opens.
+// The steps as functions are steps of the relation, done whenever they may be; a house's state is its file's replay; every file opens.
 pub fn steps_stand() -> u8
     ensures faithful { λ _. ⌜ Faithful ⌝ }
+    ensures exact { λ _. ⌜ Exact ⌝ }
     ensures replays { λ _. ⌜ Replays ⌝ }
     ensures lawful { λ _. ⌜ Lawful ⌝ }
     ensures opens { λ _. ⌜ Opens ⌝ }
