@@ -47,7 +47,11 @@ pub fn is_as_said(house: u32, shelves: &[u32], e: Entry) -> bool
         return true;
     }
     let item = (e.key % 65536) as usize;
-    if item < shelves.len() { shelves[item] == e.amount } else { 0 == e.amount }
+    if item < shelves.len() {
+        shelves[item] == e.amount
+    } else {
+        0 == e.amount
+    }
 }
 
 // Whether the house's shelves are as the entries say.

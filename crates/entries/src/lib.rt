@@ -1,4 +1,4 @@
 // What the entries of an order ask of a house's shelves and of other orders, and what they do to the shelves.
-pub mod named;
 pub mod entry;
+pub mod named;
 pub mod order;
