@@ -7,6 +7,7 @@ use orders::Refusal;
 pub mod admit;
 pub mod apply;
 pub mod held;
+pub mod opening;
 
 // The most orders that a house holds back, its most starts, and the most bytes of its file.
 pub const MAX_HELD: usize = 64;
@@ -38,4 +39,11 @@ pub enum Admission {
     Fresh,
     Again,
     Refused(Refusal),
+}
+
+// Why a file was not opened.
+#[derive(Clone, Copy)]
+pub enum Trouble {
+    Refused(Refusal),
+    NoMemory,
 }
