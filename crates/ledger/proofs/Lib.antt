@@ -1,0 +1,4 @@
+pub mod Scans
+pub mod Searches
+pub mod Sizes
+pub mod Replay

@@ -1,0 +1,5 @@
+pub mod View
+pub mod Answers
+pub mod Firsts
+pub mod File
+pub mod Opening

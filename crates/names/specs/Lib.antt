@@ -1,0 +1,3 @@
+pub mod Names
+pub mod Sets
+pub mod Index
