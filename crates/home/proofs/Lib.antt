@@ -1,0 +1,5 @@
+pub mod Searches
+pub mod Marks
+pub mod Asks
+pub mod Ends
+pub mod Rules

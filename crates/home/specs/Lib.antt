@@ -1,0 +1,4 @@
+pub mod Memory
+pub mod Find
+pub mod Verdicts
+pub mod Rulings
