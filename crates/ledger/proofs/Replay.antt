@@ -18,7 +18,7 @@ use Rattle.orders.specs.declared.Order.{Order as Slots}
 use Rattle.orders.specs.declared.read.Read.{Read}
 use Rattle.orders.specs.declared.read.Read.the-variants.{Whole, Cut}
 use Rattle.orders.specs.declared.read.Read.the-variants as read
-use Rattle.ledger.specs.File.{Reached, start, next}
+use Rattle.orders.specs.File.{Reached, start, next}
 use Rattle.ledger.specs.View.{Fits}
 use Rattle.ledger.specs.Opening.{ReadTo, Cause, noRecord, notNext, EndOf, Replayed}
 use Rattle.ledger.specs.declared.Trouble.{Trouble}

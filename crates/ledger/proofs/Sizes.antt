@@ -11,7 +11,7 @@ use Rattle.protocol.specs.House.{Began, Held, Done, Dropped, Ruled}
 use Rattle.protocol.specs.State.{recSize}
 use Rattle.orders.specs.declared.Entry.{Entry}
 use Rattle.orders.specs.Order.{Order, Rec, entryModel, orderSize, recOk}
-use Rattle.orders.specs.Parse.{Got, got, cut, bad, bind, byte, number, name, entry, entries, body, order, kind, form, parse}
+use Rattle.orders.specs.Parse.{Got, got, cut, bad, bind, byte, number, name, entry, entries, body, order, kind, form, parse, count}
 
 -- of what was read and of how many bytes are left, Q holds
 abbrev pub Left : {A : Type 0} → (A → ℕ → Type 0) → Got A → Type 0
@@ -85,14 +85,17 @@ body-left m r w bs =
 abbrev TookOrder : List ℕ → Order → ℕ → Type 0
 TookOrder bs o l = length bs ≡ orderSize o + l
 
+count-left : (bs : List ℕ) → Left (Took bs 1) (count bs)
+unfolding count
+count-left bs = bind-left (Took bs 1) (Took bs 1) (byte bs) _ (byte-left bs) (λ k cs p. cond-left (Took bs 1) (leb k 16) (got k cs) (bad 1) p tt)
+
 order-left : (bs : List ℕ) → Left (TookOrder bs) (order bs)
 unfolding order
 order-left bs =
     bind-left (Took bs 9) (TookOrder bs) (name bs) _ (name-left bs) (λ m cs p.
-    bind-left (Took cs 1) (TookOrder bs) (byte cs) _ (byte-left cs) (λ r ds q.
-    bind-left (Took ds 1) (TookOrder bs) (byte ds) _ (byte-left ds) (λ w es s.
-    cond-left (TookOrder bs) (leb r 16 && leb w 16) (body m r w es) (bad 1)
-    (map-left (TookBody es) (TookOrder bs) (body m r w es) (body-left m r w es) (λ o rest t. omega (arith, p, q, s, t))) tt)))
+    bind-left (Took cs 1) (TookOrder bs) (count cs) _ (count-left cs) (λ r ds q.
+    bind-left (Took ds 1) (TookOrder bs) (count ds) _ (count-left ds) (λ w es s.
+    map-left (TookBody es) (TookOrder bs) (body m r w es) (body-left m r w es) (λ o rest t. omega (arith, p, q, s, t)))))
 
 -- a record was taken, of which the first byte is not among bs
 abbrev TookRest : List ℕ → Rec → ℕ → Type 0

@@ -18,7 +18,7 @@ use Rattle.orders.specs.declared.read.Read.{Read}
 use Rattle.orders.specs.declared.read.Read.the-variants.{Whole, Cut}
 use Rattle.orders.specs.declared.read.Read.the-variants as read
 use Rattle.ledger.specs.View.{view}
-use Rattle.ledger.specs.File.{Reached}
+use Rattle.orders.specs.File.{Reached}
 use Rattle.ledger.specs.declared.Ledger.{Ledger}
 use Rattle.ledger.specs.declared.Trouble.{Trouble}
 use Rattle.ledger.specs.declared.Trouble.the-variants.{Refused, NoMemory}

@@ -10,7 +10,7 @@ loop-record-holds c = (read-none (c .args .houses) (c .args .self .now .house) (
 
 pub returns-in-rest : need.returns-in-rest
 returns-in-rest c = record {
-  answer = read-end (c .args .houses) (c .args .self .now .house) (c .args .bytes .now) (view (c .loop-record .self) (c .loop-record .shelves)) (c .record-at-read .result) (c .end-of .result) (c .loop-record .inv .0) (c .record-at-read .ensures .says) (c .in-rest .not-Whole) (c .end-of .ensures);
+  answer = read-end (c .args .houses) (c .args .self .now .house) (c .args .bytes .now) (view (c .loop-record .self) (c .loop-record .shelves)) (c .record-at-read .result) (c .end-of .result) (c .loop-record .inv .0) (c .record-at-read .ensures .value) (c .in-rest .not-Whole) (c .end-of .ensures);
   house = c .loop-record .inv .1;
 }
 
@@ -18,15 +18,15 @@ pub returns-then-next-gt-MAX-BYTES : need.returns-then-next-gt-MAX-BYTES
 returns-then-next-gt-MAX-BYTES c = record {
   answer =
       elim (c .then-next-gt-MAX-BYTES .came) [
-      then-next-gt-MAX-BYTES·by·then-next-gt-MAX-BYTES w ↦ read-long _ _ _ (c .loop-record .self .house) (c .loop-record .inv .1) _ (c .loop-record .inv .0) _ _ (c .in-Whole .ensures tt .says) (c .in-Whole .ensures tt .on) (w .if-next-gt-MAX-BYTES .taken)
-      | then-next-gt-MAX-BYTES·by·else-next-gt-MAX-BYTES·then-not-admits w ↦ read-wrong _ _ _ (c .loop-record .self .house) (c .loop-record .inv .1) _ (c .loop-record .inv .0) _ _ (c .in-Whole .ensures tt .says) (c .in-Whole .ensures tt .on) (w .if-not-admits .ensures tt) ];
+      then-next-gt-MAX-BYTES·by·then-next-gt-MAX-BYTES w ↦ read-long _ _ _ (c .loop-record .self .house) (c .loop-record .inv .1) _ (c .loop-record .inv .0) _ _ (c .in-Whole .ensures tt .value) (c .in-Whole .ensures tt .next) (w .if-next-gt-MAX-BYTES .taken)
+      | then-next-gt-MAX-BYTES·by·else-next-gt-MAX-BYTES·then-not-admits w ↦ read-wrong _ _ _ (c .loop-record .self .house) (c .loop-record .inv .1) _ (c .loop-record .inv .0) _ _ (c .in-Whole .ensures tt .value) (c .in-Whole .ensures tt .next) (w .if-not-admits .ensures tt) ];
   house = c .loop-record .inv .1;
 }
 
 pub apply-requires : need.apply-requires
-apply-requires c κs = read-fits _ _ _ (c .loop-record .self .house) (c .loop-record .inv .1) _ (c .loop-record .inv .0) _ _ (c .in-Whole .ensures tt .says) (c .in-Whole .ensures tt .on) (c .if-next-gt-MAX-BYTES .left) (c .if-not-admits .ensures tt)
+apply-requires c κs = read-fits _ _ _ (c .loop-record .self .house) (c .loop-record .inv .1) _ (c .loop-record .inv .0) _ _ (c .in-Whole .ensures tt .value) (c .in-Whole .ensures tt .next) (c .if-next-gt-MAX-BYTES .left) (c .if-not-admits .ensures tt)
 
 pub loop-record-again : need.loop-record-again
 loop-record-again c =
-    (read-more _ _ _ (c .loop-record .self .house) (c .loop-record .inv .1) _ (c .loop-record .inv .0) _ _ (c .in-Whole .ensures tt .says) (c .in-Whole .ensures tt .on) (c .if-not-admits .ensures tt) _ (c .in-Ok .ensures tt .view),
+    (read-more _ _ _ (c .loop-record .self .house) (c .loop-record .inv .1) _ (c .loop-record .inv .0) _ _ (c .in-Whole .ensures tt .value) (c .in-Whole .ensures tt .next) (c .if-not-admits .ensures tt) _ (c .in-Ok .ensures tt .view),
     c .in-Ok .ensures tt .house ∙ c .loop-record .inv .1)
