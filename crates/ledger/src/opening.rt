@@ -27,7 +27,14 @@ impl Ledger {
     {
         let ever = NameIndex::new(heap)?;
         let ruled = NameIndex::new(heap)?;
-        Ok(Ledger { house, start: 0, held: Vec::new(heap), ever, ruled, bytes: 0 })
+        Ok(Ledger {
+            house,
+            start: 0,
+            held: Vec::new(heap),
+            ever,
+            ruled,
+            bytes: 0,
+        })
     }
 
     // Applies the records of the file one after the other, up to its last whole one.

@@ -38,8 +38,9 @@ fn names() -> Result<(), Fail> {
         (17, 0, 1, 0, RANGE),
     ];
     for (houses, home, start, number, answer) in table {
-        check_eq(of_name(houses, home, start, number), answer)
-            .note(format_args!("{houses} houses: {home} {start} {number}"))?;
+        check_eq(of_name(houses, home, start, number), answer).note(format_args!(
+            "{houses} houses: {home} {start} {number}"
+        ))?;
     }
     Ok(())
 }
@@ -71,8 +72,9 @@ fn counts() -> Result<(), Fail> {
     ];
     for (reads, writes, len, answer) in table {
         check(len <= 276)?;
-        check_eq(of_record(1, &order(2, reads, writes)[0..len]), answer)
-            .note(format_args!("{reads} reads, {writes} writes, {len} bytes"))?;
+        check_eq(of_record(1, &order(2, reads, writes)[0..len]), answer).note(format_args!(
+            "{reads} reads, {writes} writes, {len} bytes"
+        ))?;
     }
     Ok(())
 }

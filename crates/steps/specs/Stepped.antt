@@ -1,0 +1,43 @@
+-- How a step ends: as the house's function says, in the answer, on the host and in what the house knows. Assumes nothing.
+use mathlib.Core.Path.{_≡_}
+use mathlib.Core.Bool.{Bool, true, false}
+use mathlib.Core.List.{List, [], _++_}
+use Prim.Native.Nat.{ℕ}
+use lib.ListN.{take}
+use Rattle.std.specs.declared.result.Result.{Result}
+use Rattle.std.specs.declared.result.Result.the-variants.{Ok, Err}
+use Rattle.protocol.specs.State.{State, replay}
+use Rattle.protocol.specs.Plan.{Verdict, refused, does, Output, Work, speak}
+use Rattle.orders.specs.Order.{entryModel}
+use Rattle.orders.specs.Refusals.{numberOf}
+use Rattle.steps.specs.declared.broken.Broken.{Broken}
+use Rattle.steps.specs.declared.broken.Trouble.{Trouble}
+use Rattle.steps.specs.declared.broken.Trouble.the-variants.{Refused, NoMemory, Down}
+use Rattle.steps.specs.Hosts.{World, performed}
+
+-- the host did all of the output; where it failed, of the messages at most some first part went out
+abbrev pub Performs : Output entryModel → World → World → Result (Unit {0}) Broken → Type 0
+Performs o x y (Ok _) = y ≡ performed o x
+Performs o x y (Err _) = (k : ℕ) × (y .sent ≡ x .sent ++ take k (o .sends))
+
+-- the output of a step; of one that is refused, nothing
+abbrev pub outputOf : Verdict (Output entryModel) → Output entryModel
+outputOf (refused k) = speak entryModel []
+outputOf (does o) = o
+
+abbrev pub isDone : Verdict (Output entryModel) → Bool
+isDone (refused k) = false
+isDone (does o) = true
+
+-- the output of a step that changes the memory too
+abbrev pub outOf : Verdict (Work entryModel) → Verdict (Output entryModel)
+outOf (refused k) = refused k
+outOf (does w) = does (w .out)
+
+-- Ok: the step is done, the host performed its output, and the house knows the records that it added; refused by its number, or for want of memory:
+-- all is as it was; where the host failed: of the messages at most some first part went out
+abbrev pub Stepped : ℕ → Verdict (Output entryModel) → World → World → State entryModel → State entryModel → Result (Unit {0}) Trouble → Type 0
+Stepped i p x y v u (Ok _) = (isDone p ≡ true) × (y ≡ performed (outputOf p) x) × (u ≡ replay entryModel i (outputOf p .adds) v)
+Stepped i p x y v u (Err (Refused f)) = (p ≡ refused (numberOf f)) × (y ≡ x) × (u ≡ v)
+Stepped i p x y v u (Err NoMemory) = (y ≡ x) × (u ≡ v)
+Stepped i p x y v u (Err Down) = (k : ℕ) × (y .sent ≡ x .sent ++ take k (outputOf p .sends))
