@@ -7,6 +7,7 @@ use native.Mathlib.Omega.{arith}
 use lib.ListN.{length, drop}
 use Rattle.std.proofs.shelf.Tests.{and-parts, and-from, and-left, and-right, lt-ltb}
 use Rattle.std.specs.declared.result.Result.{Result}
+use Rattle.std.specs.declared.result.Result.the-variants.{Ok}
 use Rattle.protocol.specs.State.{State, emptyState, apply, replay, opens, lawful, withinLimits, allLawful, allWithin, recSize}
 use Rattle.orders.specs.Order.{Rec, entryModel}
 use Rattle.protocol.specs.Plan.{noRoom}
@@ -19,8 +20,9 @@ use Rattle.orders.specs.declared.read.Read.{Read}
 use Rattle.orders.specs.declared.read.Read.the-variants.{Whole, Cut}
 use Rattle.orders.specs.declared.read.Read.the-variants as read
 use Rattle.orders.specs.File.{Reached, start, next}
-use Rattle.ledger.specs.View.{Fits}
-use Rattle.ledger.specs.Opening.{ReadTo, Cause, noRecord, notNext, EndOf, Replayed}
+use Rattle.ledger.specs.View.{view, Fits}
+use Rattle.ledger.specs.Opening.{ReadTo, Cause, noRecord, notNext, EndOf, Replayed, Opened}
+use Rattle.ledger.specs.declared.Ledger.{Ledger}
 use Rattle.ledger.specs.declared.Trouble.{Trouble}
 use Rattle.ledger.proofs.Sizes.{moved}
 
@@ -99,3 +101,8 @@ module _ (n h : ℕ) (bs : List ℕ) where
               (within-push h rs r o (before .1) (subst (λ (u : S). withinLimits entryModel r u ≡ true) (p .state) (both .1)));
           state = q ∙ ap (λ j. apply entryModel j r v) same ∙ ap (apply entryModel h r) (p .state) ∙ sym (replay-push h rs r o);
         }
+
+-- a file that was replayed onto words of our own, which were then copied into those that were lent
+pub replayed-opened : (n h i : ℕ) (bs : List ℕ) (l : Ledger) (words before after : List ℕ) → i ≡ h → l .house ≡ i → after ≡ words → Replayed n i bs (view l words) (Ok tt) → Opened n h bs before after (Ok l)
+replayed-opened n h i bs l words before after e f g p =
+    (f ∙ e, subst (λ m. ReadTo n h bs (view l m)) (sym g) (subst (λ j. ReadTo n j bs (view l words)) e (p .0)), p .1)

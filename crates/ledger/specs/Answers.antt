@@ -23,6 +23,12 @@ admission i t Fresh = does (record { adds = Held t ∷ []; syncs = true; sends =
 admission i t Again = does (speak entryModel (Yes i (t .name) ∷ []))
 admission i t (Refused f) = refused (numberOf f)
 
+-- a hold that is to be written down fits
+abbrev pub NewGrounds : Order → State entryModel → Admission → Type 0
+NewGrounds t v Fresh = Fits (Held t) v
+NewGrounds t v Again = ⊥
+NewGrounds t v (Refused f) = Unit {0}
+
 -- a hold that is to be written down fits, and one that comes again is held back
 abbrev pub HoldGrounds : Order → State entryModel → Admission → Type 0
 HoldGrounds t v Fresh = Fits (Held t) v

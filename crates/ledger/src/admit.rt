@@ -3,12 +3,12 @@ ghost use mathlib.Core.Path.{_≡_};
 ghost use mathlib.Core.Bool.{_&&_};
 ghost use Rattle.protocol.specs.House.{Held};
 ghost use Rattle.protocol.specs.State.{lawful, withinLimits};
-ghost use Rattle.protocol.specs.Plan.{planHold, planLearn};
+ghost use Rattle.protocol.specs.Plan.{planHold, planNewHold, planLearn};
 ghost use Rattle.orders.specs.Order.{entryModel};
 ghost use Rattle.orders.specs.Values.{recOf};
 ghost use Rattle.entries.specs.Named.{namedOf};
 ghost use Rattle.ledger.specs.View.{view};
-ghost use Rattle.ledger.specs.Answers.{admission, HoldGrounds, learning, LearnGrounds};
+ghost use Rattle.ledger.specs.Answers.{admission, HoldGrounds, NewGrounds, learning, LearnGrounds};
 use crate::Admission;
 use crate::Ledger;
 use crate::MAX_BYTES;
@@ -68,6 +68,14 @@ impl Ledger {
         if any_same(order, self.held.as_slice()) {
             return Admission::Again;
         }
+        self.may_hold_new(shelves, order)
+    }
+
+    // The same of an order that touches this house and is not held back.
+    fn may_hold_new(&self, shelves: &[u32], order: &NamedOrder) -> Admission
+        ensures answer { λ r. ⌜ admission (now (self .entry) .house) (namedOf (now (order .entry))) r ≡ planNewHold entryModel (now (self .entry) .house) (namedOf (now (order .entry))) (view (now (self .entry)) (now (shelves .entry))) ⌝ }
+        ensures new { λ r. ⌜ NewGrounds (namedOf (now (order .entry))) (view (now (self .entry)) (now (shelves .entry))) r ⌝ }
+    {
         if self.ever.contains(order.name) {
             return Admission::Refused(Refusal::HeldBefore);
         }

@@ -6,7 +6,8 @@ use orders::Refusal;
 
 pub mod admit;
 pub mod apply;
-pub mod held;
+pub mod getters;
+mod held;
 pub mod opening;
 
 // The most orders that a house holds back, its most starts, and the most bytes of its file.
@@ -15,6 +16,9 @@ pub const MAX_HELD: usize = 64;
 pub const MAX_STARTS: u32 = 65535;
 
 pub const MAX_BYTES: usize = 4194304;
+
+// How many shelves a house has.
+pub const SHELVES: usize = 4096;
 
 // What follows from the records of a house's file.
 #[derive(Drop)]

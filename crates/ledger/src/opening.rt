@@ -1,13 +1,16 @@
 // Opening a file: the ledger and the shelves that its records say.
 ghost use mathlib.Core.Path.{_≡_};
+ghost use mathlib.Core.Bool.{_&&_};
+ghost use lib.Dec.{ltb};
 ghost use Rattle.std.specs.Vec.{made};
-ghost use Rattle.std.specs.Results.{isOk};
+ghost use Rattle.protocol.specs.Model.{housesOk};
 ghost use Rattle.protocol.specs.State.{emptyState};
 ghost use Rattle.orders.specs.Order.{entryModel};
 ghost use Rattle.ledger.specs.View.{view};
 ghost use Rattle.ledger.specs.Opening.{Replayed, Opened, EndOf};
 use crate::Ledger;
 use crate::MAX_BYTES;
+use crate::SHELVES;
 use crate::Trouble;
 use crate::admit::*;
 use crate::apply::*;
@@ -21,6 +24,32 @@ use std::alloc::AllocError;
 use std::alloc::Global;
 
 impl Ledger {
+    // The ledger that the bytes of a file say, with its shelves in the lent words. A file that ends inside a record is taken up to
+    // its last whole one, whose end is the ledger's length. The records are applied to words of our own, so that what is refused changes nothing.
+    pub fn open(
+        heap: Global,
+        houses: u8,
+        house: u8,
+        bytes: &[u8],
+        shelves: &mut [u32],
+    ) -> Result<Ledger, Trouble>
+        ensures { λ r. ⌜ Opened houses house (now (bytes .entry)) (now (shelves .entry)) (now (shelves .exit)) r ⌝ }
+    {
+        if !is_house(houses, house) {
+            return Err(Trouble::Refused(Refusal::OutOfRange));
+        }
+        if shelves.len() != SHELVES {
+            return Err(Trouble::NoMemory);
+        }
+        let Ok(mut ledger) = Ledger::new(heap, house) else {
+            return Err(Trouble::NoMemory);
+        };
+        let mut words = [0; SHELVES];
+        ledger.replay(houses, bytes, &mut words)?;
+        shelves.copy_from_slice(&words);
+        Ok(ledger)
+    }
+
     // The ledger of a file without records.
     fn new(heap: Global, house: u8) -> Result<Ledger, AllocError>
         ensures { λ r. ⌜ made r (λ l. (l .house ≡ house) × (view l (emptyState entryModel .shelves) ≡ emptyState entryModel)) ⌝ }
@@ -56,6 +85,13 @@ impl Ledger {
             };
         }
     }
+}
+
+// Whether there may be so many houses, of which one has the number.
+fn is_house(houses: u8, house: u8) -> bool
+    ensures { λ r. ⌜ r ≡ (housesOk houses && ltb house houses) ⌝ }
+{
+    houses_ok(houses) && house < houses
 }
 
 // What the end of a file means: it is cut, or the bytes there are refused.
