@@ -62,18 +62,18 @@ module _ (d : Name) where
       let q = or-parts (sameName d (a .order .name)) (asked entryModel d rest) e in
       ap (λ b. cond b rest (a ∷ dropAsk entryModel d rest)) (q .0) ∙ ap (λ (qs : List (Asking entryModel)). a ∷ qs) (none-dropped rest (q .1))
 
-  pub first-asked : (xs : List Asked) (i : ℕ) (y : Asked) → FirstAt (askedOf d) xs i → y ≡ getD xs i y → askOf entryModel d (map askingOf xs) ≡ some (askingOf y)
+  out-asked : (xs : List Asked) (i : ℕ) (y : Asked) → FirstAt (askedOf d) xs i → y ≡ getD xs i y → askOf entryModel d (map askingOf xs) ≡ some (askingOf y)
   unfolding askOf FirstAt
-  first-asked [] i y f e = absurd f
-  first-asked (x ∷ xs) zero y f e = ap (λ b. cond b (some (askingOf x)) (askOf entryModel d (map askingOf xs))) f ∙ ap (λ (z : Asked). some (askingOf z)) (sym e)
-  first-asked (x ∷ xs) (suc i) y f e = ap (λ b. cond b (some (askingOf x)) (askOf entryModel d (map askingOf xs))) (f .0) ∙ first-asked xs i y (f .1) e
+  out-asked [] i y f e = absurd f
+  out-asked (x ∷ xs) zero y f e = ap (λ b. cond b (some (askingOf x)) (askOf entryModel d (map askingOf xs))) f ∙ ap (λ (z : Asked). some (askingOf z)) (sym e)
+  out-asked (x ∷ xs) (suc i) y f e = ap (λ b. cond b (some (askingOf x)) (askOf entryModel d (map askingOf xs))) (f .0) ∙ out-asked xs i y (f .1) e
 
-  pub first-dropped : (xs : List Asked) (i : ℕ) → FirstAt (askedOf d) xs i → map askingOf (removed xs i) ≡ dropAsk entryModel d (map askingOf xs)
+  out-dropped : (xs : List Asked) (i : ℕ) → FirstAt (askedOf d) xs i → map askingOf (removed xs i) ≡ dropAsk entryModel d (map askingOf xs)
   unfolding dropAsk FirstAt
-  first-dropped [] i f = absurd f
-  first-dropped (x ∷ xs) zero f = sym (ap (λ b. cond b (map askingOf xs) (askingOf x ∷ dropAsk entryModel d (map askingOf xs))) f)
-  first-dropped (x ∷ xs) (suc i) f =
-      ap (λ (qs : List (Asking entryModel)). askingOf x ∷ qs) (first-dropped xs i (f .1))
+  out-dropped [] i f = absurd f
+  out-dropped (x ∷ xs) zero f = sym (ap (λ b. cond b (map askingOf xs) (askingOf x ∷ dropAsk entryModel d (map askingOf xs))) f)
+  out-dropped (x ∷ xs) (suc i) f =
+      ap (λ (qs : List (Asking entryModel)). askingOf x ∷ qs) (out-dropped xs i (f .1))
       ∙ sym (ap (λ b. cond b (map askingOf xs) (askingOf x ∷ dropAsk entryModel d (map askingOf xs))) (f .0))
 
   -- the order with the yes of one more house
@@ -86,14 +86,28 @@ module _ (d : Name) where
     yes = (fun-ext (λ k. ap (λ (marks : List Bool). getD marks k false) e ∙ set-mark (x .yes) j k l)) i;
   }
 
-  pub first-voted : (j : ℕ) (xs : List Asked) (i : ℕ) (x y : Asked) → FirstAt (askedOf d) xs i → x ≡ getD xs i x → j < length (x .yes) → y .order ≡ x .order → y .yes ≡ set (x .yes) j true →
+  in-voted : (j : ℕ) (xs : List Asked) (i : ℕ) (x y : Asked) → FirstAt (askedOf d) xs i → x ≡ getD xs i x → j < length (x .yes) → y .order ≡ x .order → y .yes ≡ set (x .yes) j true →
       map askingOf (set xs i y) ≡ voted entryModel j d (map askingOf xs)
   unfolding voted FirstAt
-  first-voted j [] i x y f e l o s = absurd f
-  first-voted j (z ∷ xs) zero x y f e l o s =
+  in-voted j [] i x y f e l o s = absurd f
+  in-voted j (z ∷ xs) zero x y f e l o s =
       (λ t. with-yes j x y l o s t ∷ map askingOf xs)
       ∙ ap (λ (w : Asked). with-mark j w ∷ map askingOf xs) e
       ∙ sym (ap (λ b. cond b (with-mark j z ∷ map askingOf xs) (askingOf z ∷ voted entryModel j d (map askingOf xs))) f)
-  first-voted j (z ∷ xs) (suc i) x y f e l o s =
-      ap (λ (qs : List (Asking entryModel)). askingOf z ∷ qs) (first-voted j xs i x y (f .1) e l o s)
+  in-voted j (z ∷ xs) (suc i) x y f e l o s =
+      ap (λ (qs : List (Asking entryModel)). askingOf z ∷ qs) (in-voted j xs i x y (f .1) e l o s)
       ∙ sym (ap (λ b. cond b (with-mark j z ∷ map askingOf xs) (askingOf z ∷ voted entryModel j d (map askingOf xs))) (f .0))
+
+  -- a search found the order at i in a copy sl of the list
+  module _ (xs sl : List Asked) (i : ℕ) (same : sl ≡ xs) (f : FirstAt (askedOf d) sl i) where
+    at : FirstAt (askedOf d) xs i
+    at = subst (λ zs. FirstAt (askedOf d) zs i) same f
+
+    pub first-asked : (y : Asked) → y ≡ getD xs i y → askOf entryModel d (map askingOf xs) ≡ some (askingOf y)
+    first-asked y e = out-asked xs i y at e
+
+    pub first-dropped : (ys : List Asked) → ys ≡ removed xs i → map askingOf ys ≡ dropAsk entryModel d (map askingOf xs)
+    first-dropped ys e = ap (λ (zs : List Asked). map askingOf zs) e ∙ out-dropped xs i at
+
+    pub first-voted : (j : ℕ) (x y : Asked) → x ≡ getD xs i x → j < length (x .yes) → y .order ≡ x .order → y .yes ≡ set (x .yes) j true → map askingOf (set xs i y) ≡ voted entryModel j d (map askingOf xs)
+    first-voted j x y e l o s = in-voted j xs i x y at e l o s

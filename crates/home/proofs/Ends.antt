@@ -1,8 +1,7 @@
 -- How a step ends: refused or accepted, as planned.
-use mathlib.Core.Path.{_≡_, refl, sym, ap, ap₂, _∙_}
-use mathlib.Core.Bool.{Bool, true, false, cond, not, _||_}
+use mathlib.Core.Path.{_≡_, refl, sym, ap, _∙_}
+use mathlib.Core.Bool.{Bool, true, false, not, _||_}
 use mathlib.Core.List.{List, [], _∷_, _++_}
-use mathlib.Core.Option.{none, some}
 use Prim.Native.Nat.{ℕ}
 use lib.Dec.{eqb, ltb, leb}
 use lib.ListN.{length}
@@ -11,7 +10,7 @@ use Rattle.std.specs.declared.result.Result.the-variants.{Ok, Err}
 use Rattle.protocol.specs.declared.Name.{Name}
 use Rattle.protocol.specs.Model.{sameName}
 use Rattle.protocol.specs.Net.{Asking, Memory, Hold, Told, nobody, asked, voted}
-use Rattle.protocol.specs.Plan.{Output, Work, Verdict, refused, does, unless, speak, planSubmit, planVote, planGiveUp, planGiveUpOf, keepAsking, askOf}
+use Rattle.protocol.specs.Plan.{Output, Work, Verdict, refused, does, unless, speak, planSubmit, planVote, planGiveUp, planGiveUpOf, keepAsking}
 use Rattle.orders.specs.declared.Refusal.{Refusal}
 use Rattle.orders.specs.Order.{Order, entryModel}
 use Rattle.orders.specs.Refusals.{numberOf}
@@ -26,6 +25,9 @@ module _ (plan : Verdict (Work entryModel)) (out : Output entryModel) where
 
   pub accepts : (a b : Home) → does (record { out = out; memory = memoryOf b }) ≡ plan → b .house ≡ a .house → b .start ≡ a .start → Ended plan out a b (Ok tt)
   accepts a b e h s = record { decision = e; memory = ap (λ v. memoryAfter v (memoryOf a)) e; house = h; start = s }
+
+pub keeps-tried : (tried : Name → Bool) {qs rs : List (Asking entryModel)} → qs ≡ rs → _≡_ {A = Memory entryModel} (record { asking = qs; tried = tried }) (record { asking = rs; tried = tried })
+keeps-tried tried e = λ i. record { asking = e i; tried = tried }
 
 -- a memory by its two parts
 leaves : (out : Output entryModel) (m k : Memory entryModel) → m .asking ≡ k .asking → m .tried ≡ k .tried → _≡_ {A = Verdict (Work entryModel)} (does (record { out = out; memory = m })) (does (record { out = out; memory = k }))

@@ -17,7 +17,7 @@ use Rattle.protocol.specs.declared.Name.{Name}
 use Rattle.protocol.specs.Model.{sameName}
 use Rattle.protocol.specs.House.{Ruled}
 use Rattle.protocol.specs.Net.{Asking, Memory, asked}
-use Rattle.protocol.specs.Plan.{Verdict, refused, does, Work, unless, planRule, planRuleOf, askOf, allSaid, allYes, noRoom}
+use Rattle.protocol.specs.Plan.{Verdict, refused, does, unless, planRule, planRuleOf, askOf, allSaid, allYes, noRoom}
 use Rattle.orders.specs.declared.Entry.{Entry}
 use Rattle.orders.specs.Order.{anyBy, housesOf, entryModel, Order}
 use Rattle.entries.specs.Named.{namedOf}
@@ -25,6 +25,7 @@ use Rattle.home.specs.declared.types.Asked.{Asked}
 use Rattle.home.specs.Memory.{askingOf}
 use Rattle.home.specs.Find.{FirstAt, askedOf}
 use Rattle.home.specs.Rulings.{rulable, ruledWork, ruledBy, accepted, mayRule, nextRulable}
+use Rattle.home.specs.Verdicts.{stopAsking}
 use Rattle.home.proofs.Asks.{none-asked, first-asked, any-asked}
 
 -- the plan of a ruling is the memory's part, and then the file's
@@ -39,6 +40,28 @@ rule-of (some a) bytes m = by (allYes entryModel a)
 
 pub rule-splits : (d : Name) (bytes : ℕ) (m : Memory entryModel) → planRule entryModel d bytes m ≡ ruledBy (rulable (askOf entryModel d (m .asking))) bytes m
 rule-splits d bytes m = rule-of (askOf entryModel d (m .asking)) bytes m
+
+-- the plan of a ruling from what the memory says, and from whether the file has room for the record
+module _ (d : Name) (bytes : ℕ) (m : Memory entryModel) where
+  abbrev said : Verdict Order
+  said = rulable (askOf entryModel d (m .asking))
+
+  from : (v : Verdict Order) → v ≡ said → ruledBy v bytes m ≡ planRule entryModel d bytes m
+  from v e = ap (λ w. ruledBy w bytes m) e ∙ sym (rule-splits d bytes m)
+
+  pub rule-refused : (k : ℕ) → refused k ≡ said → refused k ≡ planRule entryModel d bytes m
+  rule-refused k e = from (refused k) e
+
+  pub rule-full : (t : Order) → does t ≡ said → noRoom entryModel (Ruled t) bytes ≡ true → refused 15 ≡ planRule entryModel d bytes m
+  unfolding unless
+  rule-full t e full = ap (λ b. unless ((15, b) ∷ []) (ruledWork t m)) (sym full) ∙ from (does t) e
+
+  pub rule-done : (t : Order) (k : Memory entryModel) → does t ≡ said → noRoom entryModel (Ruled t) bytes ≡ false → k ≡ stopAsking (t .name) m → does (record { out = ruledWork t m .out; memory = k }) ≡ planRule entryModel d bytes m
+  unfolding unless
+  rule-done t k e room left =
+      ap (λ (w : Memory entryModel). does (record { out = ruledWork t m .out; memory = w })) left
+      ∙ ap (λ b. unless ((15, b) ∷ []) (ruledWork t m)) (sym room)
+      ∙ from (does t) e
 
 and-assoc : (a b c : Bool) → (a && (b && c)) ≡ ((a && b) && c)
 and-assoc true b c = refl
@@ -65,7 +88,7 @@ pub rule-some : (d : Name) (xs sl : List Asked) (i : ℕ) (y : Asked) (b : Bool)
     cond b (does (namedOf (y .order))) (refused 13) ≡ rulable (askOf entryModel d (map askingOf xs))
 rule-some d xs sl i y b a f e p =
     ap (λ z. cond z (does (namedOf (y .order))) (refused 13)) p
-    ∙ sym (ap rulable (first-asked d xs i y (subst (λ zs. FirstAt (askedOf d) zs i) a f) e))
+    ∙ sym (ap rulable (first-asked d xs sl i a f y e))
 
 module _ (qs : List (Asking entryModel)) where
   -- one step of the search for the next order that may be ruled

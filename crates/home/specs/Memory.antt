@@ -21,6 +21,7 @@ askingOf a = record { order = namedOf (a .order); yes = λ j. getD (a .yes) j fa
 abbrev pub triedOf : ℕ → ℕ → List Bool → Name → Bool
 triedOf h s marks d = (eqb (d .home) h && eqb (d .start) s) && getD marks (d .number) false
 
+-- the memory: the orders asked about, and the names tried
 abbrev pub memoryOf : Home → Memory entryModel
 memoryOf h = record { asking = map askingOf (vec-items (h .asking)); tried = triedOf (h .house) (h .start) (vec-items (h .tried)) }
 

@@ -35,6 +35,7 @@ abbrev pub ruling : Ruling → Verdict Order
 ruling (May k) = does (namedOf k)
 ruling (Refused f) = refused (numberOf f)
 
+-- not refused
 abbrev pub accepted : {X : Type 0} → Verdict X → Bool
 accepted (refused k) = false
 accepted (does x) = true

@@ -17,8 +17,8 @@ impl Home {
     pub fn new(heap: Global, house: u8, start: u32) -> Result<Home, AllocError>
         ensures { λ r. ⌜ made r (λ h. (memoryOf h ≡ noMemory entryModel) × (h .house ≡ house) × (h .start ≡ start)) ⌝ }
     {
-        let asking = Vec::with_capacity(heap, 64)?;
-        let tried = vec![in heap; false; 65536]?;
+        let asking = Vec::with_capacity(heap, MOST_ASKED)?;
+        let tried = vec![in heap; false; NUMBERS]?;
         Ok(Home {
             house,
             start,
@@ -41,7 +41,7 @@ impl Home {
         if name.home != self.house || name.start != self.start {
             return false;
         }
-        if name.number > 65535 {
+        if name.number as usize >= NUMBERS {
             return false;
         }
         self.tried[name.number as usize]

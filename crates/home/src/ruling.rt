@@ -53,7 +53,7 @@ impl Home {
         let Some(i) = find_asked(name, self.asking.as_slice()) else {
             return Ruling::Refused(Refusal::NotPending);
         };
-        let asked = self.asking[i];
+        let asked = &self.asking[i];
         if !asked.all_yes() {
             return Ruling::Refused(Refusal::MissingYes);
         }

@@ -17,7 +17,7 @@ impl Home {
         ensures { λ r. ⌜ Ended (inRange (leb (order .name .number) 65535) (planSubmit entryModel (self .house) (namedOf order) (self .start) (memoryOf self))) (speak entryModel (Hold (namedOf order) ∷ [])) self (r .0) (r .1) ⌝ }
     {
         let name = order.name;
-        if name.number > 65535 {
+        if name.number as usize >= NUMBERS {
             return (self, Err(Refusal::OutOfRange));
         }
         if name.home != self.house || name.start != self.start {
@@ -26,7 +26,7 @@ impl Home {
         if self.has_tried(name) {
             return (self, Err(Refusal::AlreadyTried));
         }
-        if self.asking.len() >= 64 {
+        if self.asking.len() >= MOST_ASKED {
             return (self, Err(Refusal::AskingFull));
         }
         self.asking.push_reserved(Asked {

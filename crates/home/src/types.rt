@@ -6,6 +6,12 @@ ghost use Rattle.std.specs.Of.Vec.{vec-len, vec-cap};
 use entries::named::NamedOrder;
 use orders::Refusal;
 
+// How many orders a home asks about at most.
+pub const MOST_ASKED: usize = 64;
+
+// How many numbers a start has; a name's number is below.
+pub const NUMBERS: usize = 65536;
+
 // An order that the houses are asked about, with a mark for each house that said yes.
 #[derive(Clone, Copy)]
 pub struct Asked {
@@ -15,7 +21,7 @@ pub struct Asked {
 }
 
 // The memory of a home: the orders asked about, in the order of submitting, and a mark for each number tried in this start.
-// Room for 64 orders and all marks are there from the beginning, so that no step allocates.
+// Room for all orders and all marks is there from the beginning, so that no step allocates.
 #[derive(Drop)]
 pub struct Home {
     pub house: u8,

@@ -1,6 +1,6 @@
 use borrow.Author.Needs.{needs}
-use mathlib.Core.Path.{_≡_, refl, sym, ap, _∙_, fun-ext}
-use mathlib.Core.Bool.{Bool, false}
+use mathlib.Core.Path.{refl, sym, ap, _∙_, fun-ext}
+use mathlib.Core.Bool.{Bool}
 use mathlib.Core.List.{[], _∷_, _++_, map}
 use native.Mathlib.Omega.{arith}
 use Prim.Native.Nat.{ℕ, _<_}
@@ -16,9 +16,6 @@ use Rattle.home.proofs.Marks.{all-false, tried-set}
 use Rattle.home.proofs.Ends.{refuses, accepts, submits}
 use Rattle.home.proofs.types.Home.submit.Needs as need
 
-pub returns-then-name-gt65535 : need.returns-then-name-gt65535
-returns-then-name-gt65535 c = refuses _ _ _ _ (grind (arith, tells))
-
 pub returns-then-name-self : need.returns-then-name-self
 unfolding unless
 returns-then-name-self c = refuses _ _ _ _ (grind (arith, tells))
@@ -27,9 +24,9 @@ pub returns-then-has-tried : need.returns-then-has-tried
 unfolding unless
 returns-then-has-tried c = refuses _ _ _ _ (grind (arith, tells))
 
-pub returns-then-len-ge64 : need.returns-then-len-ge64
+pub returns-then-len-ge-MOST-ASKED : need.returns-then-len-ge-MOST-ASKED
 unfolding unless
-returns-then-len-ge64 c =
+returns-then-len-ge-MOST-ASKED c =
     let l = length-map (vec-items (c .args .self .asking)) askingOf in
     refuses _ _ _ _ (grind (arith, tells))
 
@@ -40,7 +37,7 @@ returns c =
     let few : length (map askingOf (vec-items (c .args .self .asking))) < 64 = search needs in
     accepts _ _ _ _
     (submits (c .args .self .house) (c .args .self .start) (namedOf (c .args .order)) (memoryOf (c .args .self)) _
-    (le-leb _ _ (c .if-name-gt65535 .left))
+    (le-leb (c .args .order .name .number) 65535 (omega arith))
     (eq-eqb _ _ (c .if-name-self .left))
     (eq-eqb _ _ (c .if-name-self-2 .left))
     (sym (c .if-has-tried .ensures tt))
