@@ -13,8 +13,7 @@ loop-record-holds c = ([], start, refl)
 pub loop-record-again : need.loop-record-again
 loop-record-again c =
     let rs = c .loop-record .inv .0 in
-    let r = recOf (c .in-Whole .record) (c .in-Whole .order) in
-    (
+    let r = recOf (c .in-Whole .record) (c .in-Whole .order) in (
       _,
       next rs _ _ r (c .loop-record .inv .1) (sym (c .in-Whole .ensures tt .value)),
       c .add-record-sum .ensures ∙ ap (λ s. plusRec s r) (c .loop-record .inv .2) ∙ sym (folded-push plusRec 0 rs r),
