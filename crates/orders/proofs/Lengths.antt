@@ -72,13 +72,6 @@ unfolding nameBytes
 len-name r s (inl p) = sym (ap (λ x. length (recBytes (recOf x s))) (p .1))
 len-name r s (inr p) = sym (ap (λ x. length (recBytes (recOf x s))) (p .1))
 
-pub len-order : (r : Record) (s : Slots) → ((d : Name) × (r ≡ code.Held d)) ⊎ ((d : Name) × (r ≡ code.Ruled d)) → 12 + 8 * (s .«read_count» + s .«write_count») ≡ length (recBytes (recOf r s))
-len-order r s (inl p) = sym (ap (λ x. length (recBytes (recOf x s))) (p .1) ∙ omega (arith, length-slots (p .0) s))
-len-order r s (inr p) = sym (ap (λ x. length (recBytes (recOf x s))) (p .1) ∙ omega (arith, length-slots (p .0) s))
-
-pub len-hold : (m : Message) (s : Slots) (d : Name) → m ≡ post.Hold d → 12 + 8 * (s .«read_count» + s .«write_count») ≡ length (msgBytes (msgOf m s))
-len-hold m s d e = sym (ap (λ x. length (msgBytes (msgOf x s))) e ∙ omega (arith, length-slots d s))
-
 pub len-short : (m : Message) (s : Slots) → ((h : ℕ) × (d : Name) × (m ≡ post.Yes h d)) ⊎ ((b : Bool) × (d : Name) × (m ≡ post.Told b d)) → 11 ≡ length (msgBytes (msgOf m s))
 unfolding nameBytes
 len-short m s (inl p) = sym (ap (λ x. length (msgBytes (msgOf x s))) (p .2))

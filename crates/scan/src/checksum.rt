@@ -57,9 +57,7 @@ fn add_record(sum: u64, record: Record, order: &Order) -> u64
     }
 }
 
-// The sum over the records of the file up to the first that is cut or refused.
-#[unsafe(no_mangle)]
-pub extern "C" fn scan_checksum(houses: u8, bytes: &[u8]) -> u64
+fn sum_of(houses: u8, bytes: &[u8]) -> u64
     ensures { λ r. ⌜ Sums houses (now (bytes .entry)) r ⌝ }
 {
     let mut at = 0;
@@ -71,4 +69,12 @@ pub extern "C" fn scan_checksum(houses: u8, bytes: &[u8]) -> u64
         sum = add_record(sum, record, &order);
         at = next;
     }
+}
+
+// The sum over the records of the file up to the first that is cut or refused, for callers in C or Rust.
+#[unsafe(no_mangle)]
+pub extern "C" fn scan_checksum(houses: u8, bytes: &[u8]) -> u64
+    ensures { λ r. ⌜ Sums houses (now (bytes .entry)) r ⌝ }
+{
+    sum_of(houses, bytes)
 }

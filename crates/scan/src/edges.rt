@@ -3,7 +3,9 @@ use crate::answers::CUT;
 use crate::answers::of_file;
 use crate::answers::of_message;
 use crate::answers::of_record;
+use orders::Entry;
 use orders::NO_ENTRIES;
+use orders::Order;
 use orders::Record;
 use orders::write::write_record;
 use protocol::Name;
@@ -79,26 +81,45 @@ fn counts() -> Result<(), Fail> {
     Ok(())
 }
 
-// What a held record with these two keys is read as.
-fn of_keys(read: [u8; 4], write: [u8; 4]) -> Result<usize, u8> {
-    let mut bytes = order(2, 1, 1);
-    bytes[12..16].copy_from_slice(&read);
-    bytes[20..24].copy_from_slice(&write);
-    of_record(2, &bytes[0..28])
+// What a held record is read as that read and writes a shelf of such a key, at the largest amount.
+fn of_keys(read: u32, write: u32) -> Result<usize, u8> {
+    let name = Name {
+        home: 0,
+        start: 1,
+        number: 0,
+    };
+    let order = Order {
+        reads: [entry(read); 16],
+        read_count: 1,
+        writes: [entry(write); 16],
+        write_count: 1,
+    };
+    let mut out = [0; 28];
+    let _ = write_record(&mut out, Record::Held(name), &order);
+    of_record(2, &out)
+}
+
+fn entry(key: u32) -> Entry {
+    Entry {
+        key,
+        amount: u32::MAX,
+    }
 }
 
 #[test]
 fn keys() -> Result<(), Fail> {
     let table = [
-        ([0, 0, 0x0f, 0xff], Ok(28)),
-        ([0, 0, 0x10, 0x00], RANGE),
-        ([0, 1, 0x0f, 0xff], Ok(28)),
-        ([0, 2, 0, 0], RANGE),
-        ([1, 0, 0, 0], RANGE),
+        (0, Ok(28)),
+        (4095, Ok(28)),
+        (4096, RANGE),
+        (65536 + 4095, Ok(28)),
+        (65536 + 4096, RANGE),
+        (2 * 65536, RANGE),
+        (256 * 65536, RANGE),
     ];
     for (key, answer) in table {
-        check_eq(of_keys(key, [0; 4]), answer).note(format_args!("{key:?} read"))?;
-        check_eq(of_keys([0; 4], key), answer).note(format_args!("{key:?} written"))?;
+        check_eq(of_keys(key, 0), answer).note(format_args!("{key} read"))?;
+        check_eq(of_keys(0, key), answer).note(format_args!("{key} written"))?;
     }
     Ok(())
 }

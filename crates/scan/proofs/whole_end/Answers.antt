@@ -10,8 +10,5 @@ loop-next-holds c = (omega arith, ([], start))
 pub loop-next-again : need.loop-next-again
 loop-next-again c = (c .in-Whole .ensures tt .next .1, (_, next _ _ _ _ (c .loop-next .inv .1 .1) (sym (c .in-Whole .ensures tt .value))))
 
-pub returns-in-Cut : need.returns-in-Cut
-returns-in-Cut c = (c .loop-next .inv .0, c .loop-next .inv .1, sym (c .in-Cut .ensures tt .value))
-
 pub returns-in-Refused : need.returns-in-Refused
 returns-in-Refused c = (c .loop-next .inv .1 .0, _, c .loop-next .inv .1 .1, sym (c .in-Refused .ensures tt .value))

@@ -5,7 +5,7 @@ use Rattle.orders.specs.Values.{recOf}
 use Rattle.orders.specs.File.{start, next}
 use Rattle.scan.specs.Checksum.{plusRec}
 use Rattle.scan.proofs.Ended.{not-whole}
-use Rattle.scan.proofs.checksum.scan_checksum.Needs as need
+use Rattle.scan.proofs.checksum.sum_of.Needs as need
 
 pub loop-record-holds : need.loop-record-holds
 loop-record-holds c = ([], start, refl)

@@ -6,7 +6,7 @@ use Rattle.std.specs.shelf.Lists.{folded}
 use Rattle.orders.specs.Order.{Rec}
 use Rattle.orders.specs.File.{Reached}
 use Rattle.scan.specs.Checksum.{plusRec}
-use Rattle.scan.proofs.checksum.scan_checksum.Given as given
+use Rattle.scan.proofs.checksum.sum_of.Given as given
 
 abbrev pub Inv-loop-record : given.InvT-loop-record
 Inv-loop-record l = (rs : List Rec) × Reached (l .houses) (l .bytes) rs (drop (l .at) (l .bytes)) × (l .sum ≡ folded plusRec 0 rs)
