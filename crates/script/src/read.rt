@@ -1,0 +1,1 @@
+// A line read whole: its first word says which command it is.
