@@ -2,3 +2,4 @@ mod Splitting
 mod Digits
 mod Chains
 mod Lists
+mod Whole

@@ -1,3 +1,5 @@
 pub mod Words
 pub mod Parse
 pub mod Answers
+pub mod Meaning
+pub mod Line

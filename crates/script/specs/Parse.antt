@@ -31,11 +31,11 @@ unfoldable pub number : List (List ℕ) → Got ℕ
 number ws = bind (word ws) (λ w ws. given (decimal w) ws)
 
 -- HOME START NUMBER
-unfoldable pub name : List (List ℕ) → Got Name
+abbrev pub name : List (List ℕ) → Got Name
 name ws = bind (number ws) (λ h ws. bind (number ws) (λ s ws. bind (number ws) (λ k ws. got (record { home = h; start = s; number = k }) ws)))
 
 -- KEY AMOUNT
-unfoldable pub entry : List (List ℕ) → Got Entry
+abbrev pub entry : List (List ℕ) → Got Entry
 entry ws = bind (number ws) (λ k ws. bind (number ws) (λ a ws. got (record { key = k; amount = a }) ws))
 
 unfoldable pub entries : ℕ → List (List ℕ) → Got (List Entry)
@@ -47,5 +47,5 @@ unfoldable pub counted : List (List ℕ) → Got (List Entry)
 counted ws = bind (number ws) (λ n ws. cond (leb n 16) (entries n ws) bad)
 
 -- HOME START NUMBER R (KEY AMOUNT)×R W (KEY AMOUNT)×W
-unfoldable pub order : List (List ℕ) → Got Order
+abbrev pub order : List (List ℕ) → Got Order
 order ws = bind (name ws) (λ m ws. bind (counted ws) (λ rs ws. bind (counted ws) (λ xs ws. got (record { name = m; reads = rs; writes = xs }) ws)))
