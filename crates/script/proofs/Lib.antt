@@ -2,4 +2,3 @@ mod Splitting
 mod Digits
 mod Chains
 mod Lists
-mod Whole

@@ -10,7 +10,7 @@ use mathlib.Core.Logic.{⊎-elim}
 use lib.Dec.{eqb}
 use Rattle.std.proofs.shelf.Tests.{eq-eqb, ne-eqb, cases-lt, cond-both}
 use Rattle.script.specs.Words.{closed, wordsFrom, words}
-use Rattle.script.specs.Answers.{none}
+use Rattle.script.specs.Parse.{none}
 
 -- a space ends the word, and the words behind it are those from the space on
 pub from-space : (w bs : List ℕ) (i : ℕ) → i < length bs → getD bs i 0 ≡ 32 → wordsFrom w (drop i bs) ≡ closed w (words (drop i bs))

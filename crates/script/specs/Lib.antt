@@ -3,3 +3,4 @@ pub mod Parse
 pub mod Answers
 pub mod Meaning
 pub mod Line
+pub mod Range

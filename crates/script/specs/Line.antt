@@ -7,7 +7,7 @@ use lib.Dec.{eqb, ltb}
 use Rattle.std.specs.shelf.Text.{sameBytes}
 use Rattle.protocol.specs.declared.Name.{Name}
 use Rattle.script.specs.Words.{words}
-use Rattle.script.specs.Parse.{Got, got, bad, bind, number, name, order}
+use Rattle.script.specs.Parse.{Got, got, bad, bind, none, word, number, name, order}
 use Rattle.script.specs.Meaning.{Meaning, skip, houses, submit, hold, vote, rule, giveUp, answer, learn, sync, stop, show, outOfForm}
 use Rattle.script.specs.declared.read.Keyword.{Keyword}
 use Rattle.script.specs.declared.read.Keyword.the-variants.{Houses, Submit, Hold, Vote, Rule, GiveUp, Answer, Learn, Sync, Stop, Show, Other}
@@ -48,13 +48,13 @@ parts Other ws = bad
 
 -- no word may be left
 abbrev pub whole : Got Meaning → Meaning
-whole (got m []) = m
-whole (got m (w ∷ ws)) = outOfForm
+whole (got m ws) = cond (none ws) m outOfForm
 whole bad = outOfForm
 
-unfoldable pub spoken : List (List ℕ) → Meaning
-spoken [] = skip
-spoken (w ∷ ws) = whole (parts (keyword w) ws)
+-- the first word and those after it; a line without words is blank
+abbrev pub spoken : Got (List ℕ) → Meaning
+spoken (got w ws) = whole (parts (keyword w) ws)
+spoken bad = skip
 
 -- a comment's first byte is 35, a '#'
 abbrev pub isComment : List ℕ → Bool
@@ -63,4 +63,4 @@ isComment (b ∷ bs) = eqb b 35
 
 -- THE LINE: what its bytes say
 abbrev pub line : List ℕ → Meaning
-line bs = cond (isComment bs) skip (spoken (words bs))
+line bs = cond (isComment bs) skip (spoken (word (words bs)))

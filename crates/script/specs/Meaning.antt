@@ -3,11 +3,10 @@ use mathlib.Core.Bool.{Bool}
 use Prim.Native.Nat.{ℕ}
 use Rattle.protocol.specs.declared.Name.{Name}
 use Rattle.orders.specs.Order.{Order}
-use Rattle.orders.specs.Model.{orderOf}
 use Rattle.script.specs.declared.NameWords.{NameWords}
 use Rattle.script.specs.declared.Line.{Line}
 use Rattle.script.specs.declared.Line.the-variants as code
-use Rattle.script.specs.Answers.{named}
+use Rattle.script.specs.Answers.{named, orderOf}
 
 pub data Meaning : Type 0 where
   skip : Meaning
@@ -27,7 +26,7 @@ pub data Meaning : Type 0 where
 abbrev pub meaning : Line → Meaning
 meaning code.Skip = skip
 meaning (code.Houses n) = houses n
-meaning (code.Submit h m o) = submit h (orderOf (named m) o)
+meaning (code.Submit h m o) = submit h (orderOf m o)
 meaning (code.Hold h m) = hold h (named m)
 meaning (code.Vote h j m) = vote h j (named m)
 meaning (code.Rule h m) = rule h (named m)

@@ -1,6 +1,6 @@
 -- What words say, from the first on. Assumes nothing.
 use mathlib.Core.List.{List, [], _∷_}
-use mathlib.Core.Bool.{cond}
+use mathlib.Core.Bool.{Bool, true, false, cond}
 use Prim.Native.Nat.{ℕ, zero, suc}
 use lib.Dec.{leb}
 use Rattle.std.specs.declared.option.Option.{Option}
@@ -23,12 +23,20 @@ abbrev pub word : List (List ℕ) → Got (List ℕ)
 word [] = bad
 word (w ∷ ws) = got w ws
 
-abbrev pub given : {A : Type 0} → Option A → List (List ℕ) → Got A
-given (Some a) ws = got a ws
-given None ws = bad
+abbrev pub none : List (List ℕ) → Bool
+none [] = true
+none (w ∷ ws) = false
 
-unfoldable pub number : List (List ℕ) → Got ℕ
-number ws = bind (word ws) (λ w ws. given (decimal w) ws)
+-- an answer by what its value stands for, with the words after it; no answer where the words are out of form
+abbrev pub given : {A B : Type 0} → (A → B) → Option A → List (List ℕ) → Got B
+given f (Some a) ws = got (f a) ws
+given f None ws = bad
+
+abbrev pub same : {A : Type 0} → A → A
+same a = a
+
+abbrev pub number : List (List ℕ) → Got ℕ
+number ws = bind (word ws) (λ w ws. given same (decimal w) ws)
 
 -- HOME START NUMBER
 abbrev pub name : List (List ℕ) → Got Name

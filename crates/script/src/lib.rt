@@ -5,7 +5,10 @@ ghost use lib.ListN.{length};
 use orders::Entry;
 use orders::Order;
 
+pub mod range;
 pub mod read;
+#[cfg(test)]
+mod tests;
 pub mod words;
 
 // An order's name as it is written. A number of 32 bits stands where the name has a byte for its home, so that a home

@@ -2,10 +2,11 @@
 ghost use mathlib.Core.Path.{_≡_};
 ghost use mathlib.Core.List.{_∷_};
 ghost use Prim.Native.Nat.{_+_, _-_, _*_, _<_, _≤_};
+ghost use lib.Dec.{eqb};
 ghost use lib.ListN.{length, getD, drop, take};
 ghost use Rattle.script.specs.Words.{words, decimal as numeral};
-ghost use Rattle.script.specs.Parse.{word as wordOf, number as numberOf, name as nameOf, entry as entryOf, counted, order as orderOf};
-ghost use Rattle.script.specs.Answers.{left, same, read, bytesOf, named, filled, ordered, none};
+ghost use Rattle.script.specs.Parse.{word as wordOf, number as numberOf, name as nameOf, entry as entryOf, counted, order as orderOf, none, same};
+ghost use Rattle.script.specs.Answers.{left, read, bytesOf, named, filled, ordered};
 use crate::Entries;
 use crate::NameWords;
 use orders::Entry;
@@ -16,6 +17,7 @@ fn word_start(line: &[u8], at: usize) -> usize
     ensures bound { λ r. ⌜ r ≤ length (now (line .entry)) ⌝ }
     ensures same { λ r. ⌜ words (drop r (now (line .entry))) ≡ words (drop at (now (line .entry))) ⌝ }
     ensures first { λ r. ⌜ (r < length (now (line .entry)) → getD (now (line .entry)) r 0 ≡ 32 → ⊥) ⌝ }
+    ensures last { λ r. ⌜ eqb r (length (now (line .entry))) ≡ none (words (drop at (now (line .entry)))) ⌝ }
 {
     for i in at..line.len() {
         if line[i] != b' ' {
