@@ -4,7 +4,7 @@ mod rehearsal;
 
 use lines::line_end;
 use rehearsal::Answer;
-use rehearsal::Stage;
+use rehearsal::State;
 use script::read::read_line;
 use std::error::AnyError;
 use std::io;
@@ -13,8 +13,8 @@ use std::io::Read;
 use std::io::Write;
 
 // The state of every house, as `show` has it.
-fn show<W: Write>(out: &mut W, stage: Stage) -> io::Result<()> {
-    if let Stage::Set(houses) = stage {
+fn show<W: Write>(out: &mut W, state: State) -> io::Result<()> {
+    if let State::Ready(houses) = state {
         for house in 0..houses {
             writeln!(out, "house {house} start 1 file 1 safe 1")?;
         }
@@ -22,13 +22,13 @@ fn show<W: Write>(out: &mut W, stage: Stage) -> io::Result<()> {
     Ok(())
 }
 
-fn print<W: Write>(out: &mut W, number: usize, stage: Stage, answer: Answer) -> io::Result<()> {
+fn print<W: Write>(out: &mut W, number: usize, state: State, answer: Answer) -> io::Result<()> {
     match answer {
-        Answer::Silent => Ok(()),
+        Answer::Skipped => Ok(()),
         Answer::Done => writeln!(out, "{number}: ok"),
         Answer::Shown => {
             writeln!(out, "{number}: ok")?;
-            show(out, stage)
+            show(out, state)
         }
         Answer::BadForm => writeln!(out, "{number}: 1"),
         Answer::OutOfRange => writeln!(out, "{number}: 2"),
@@ -36,15 +36,15 @@ fn print<W: Write>(out: &mut W, number: usize, stage: Stage, answer: Answer) -> 
 }
 
 fn play<W: Write>(out: &mut W, script: &[u8]) -> io::Result<()> {
-    let mut stage = Stage::Unset;
+    let mut state = State::Empty;
     let mut number: usize = 0;
     let mut at: usize = 0;
     while at < script.len() {
         let end = line_end(script, at);
         number += 1;
-        let (next, answer) = stage.take(&read_line(&script[at..end]));
+        let (next, answer) = state.take(&read_line(&script[at..end]));
         print(out, number, next, answer)?;
-        stage = next;
+        state = next;
         at = end + 1;
     }
     Ok(())

@@ -6,15 +6,15 @@ use script::Line;
 
 // No houses yet, or so many.
 #[derive(Clone, Copy)]
-pub enum Stage {
-    Unset,
-    Set(u8),
+pub enum State {
+    Empty,
+    Ready(u8),
 }
 
 #[derive(Clone, Copy)]
 pub enum Answer {
     // the line is passed over
-    Silent,
+    Skipped,
     Done,
     // done, and the state is to be printed
     Shown,
@@ -24,24 +24,24 @@ pub enum Answer {
     OutOfRange,
 }
 
-fn set_up(houses: u32) -> (Stage, Answer)
+fn set_up(houses: u32) -> (State, Answer)
     ensures { λ r. ⌜ r ≡ setUp houses ⌝ }
 {
     if houses == 0 || houses > 4 {
-        return (Stage::Unset, Answer::OutOfRange);
+        return (State::Empty, Answer::OutOfRange);
     }
-    (Stage::Set(houses as u8), Answer::Done)
+    (State::Ready(houses as u8), Answer::Done)
 }
 
 // The answer to a line before there are houses.
-fn start(line: &Line) -> (Stage, Answer)
+fn start(line: &Line) -> (State, Answer)
     ensures { λ r. ⌜ r ≡ before (meaning (now (line .entry))) ⌝ }
 {
     match line {
-        Line::Skip => (Stage::Unset, Answer::Silent),
-        Line::Bad => (Stage::Unset, Answer::BadForm),
+        Line::Skip => (State::Empty, Answer::Skipped),
+        Line::Bad => (State::Empty, Answer::BadForm),
         Line::Houses(houses) => set_up(*houses),
-        _ => (Stage::Unset, Answer::OutOfRange),
+        _ => (State::Empty, Answer::OutOfRange),
     }
 }
 
@@ -50,19 +50,19 @@ fn step(line: &Line) -> Answer
     ensures { λ r. ⌜ r ≡ during (meaning (now (line .entry))) ⌝ }
 {
     match line {
-        Line::Skip => Answer::Silent,
+        Line::Skip => Answer::Skipped,
         Line::Show => Answer::Shown,
         _ => Answer::BadForm,
     }
 }
 
-impl Stage {
-    pub fn take(self, line: &Line) -> (Stage, Answer)
+impl State {
+    pub fn take(self, line: &Line) -> (State, Answer)
         ensures { λ r. ⌜ r ≡ play self (meaning (now (line .entry))) ⌝ }
     {
         match self {
-            Stage::Unset => start(line),
-            Stage::Set(_) => (self, step(line)),
+            State::Empty => start(line),
+            State::Ready(_) => (self, step(line)),
         }
     }
 }
