@@ -1,0 +1,6 @@
+pub mod Words
+pub mod Parse
+pub mod Answers
+pub mod Meaning
+pub mod Line
+pub mod Range
