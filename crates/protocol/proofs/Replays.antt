@@ -32,12 +32,12 @@ module _ (M : Model) (i : ℕ) where
   count-add (Dropped d) k = omega arith
   count-add (Ruled t) k = omega arith
 
-  ever-snoc : (d : Name) (f : List (Rec M)) (r : Rec M) → everHeld M d (f ++ (r ∷ [])) ≡ everHeld M d f || isHeld M d r
+  pub ever-snoc : (d : Name) (f : List (Rec M)) (r : Rec M) → everHeld M d (f ++ (r ∷ [])) ≡ everHeld M d f || isHeld M d r
   unfolding everHeld
   ever-snoc d [] r = or-false (isHeld M d r)
   ever-snoc d (x ∷ f) r = ap (λ (b : Bool). isHeld M d x || b) (ever-snoc d f r) ∙ or-assoc (isHeld M d x) (everHeld M d f) (isHeld M d r)
 
-  ruled-snoc : (d : Name) (f : List (Rec M)) (r : Rec M) → ruled M d (f ++ (r ∷ [])) ≡ ruled M d f || isRuled M d r
+  pub ruled-snoc : (d : Name) (f : List (Rec M)) (r : Rec M) → ruled M d (f ++ (r ∷ [])) ≡ ruled M d f || isRuled M d r
   unfolding ruled
   ruled-snoc d [] r = or-false (isRuled M d r)
   ruled-snoc d (x ∷ f) r = ap (λ (b : Bool). isRuled M d x || b) (ruled-snoc d f r) ∙ or-assoc (isRuled M d x) (ruled M d f) (isRuled M d r)

@@ -1,2 +1,3 @@
 pub mod Hosts
 pub mod Stepped
+pub mod Ties

@@ -1,4 +1,5 @@
 // The steps of a house over any host: decided, noted, appended, synced, and only then said.
 pub mod broken;
 pub mod commit;
+pub mod hold;
 pub mod host;
