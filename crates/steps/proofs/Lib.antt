@@ -1,2 +1,3 @@
 pub mod Commits
 pub mod Driving
+pub mod Plans
