@@ -2,3 +2,4 @@ pub mod Scans
 pub mod Searches
 pub mod Sizes
 pub mod Replay
+pub mod Once

@@ -14,6 +14,7 @@ FirstAt p [] i = ⊥
 FirstAt p (x ∷ xs) zero = p x ≡ true
 FirstAt p (x ∷ xs) (suc i) = (p x ≡ false) × FirstAt p xs i
 
+-- what a search answers: the place of the first that passes, or that none does
 abbrev pub Found : {X : Type 0} → (X → Bool) → List X → Option ℕ → Type 0
 Found p xs None = anyBy p xs ≡ false
 Found p xs (Some i) = (i < length xs) × FirstAt p xs i

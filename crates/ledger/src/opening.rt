@@ -1,13 +1,11 @@
 // Opening a file: the ledger and the shelves that its records say.
 ghost use mathlib.Core.Path.{_≡_};
-ghost use mathlib.Core.Bool.{_&&_};
-ghost use lib.Dec.{ltb};
+ghost use mathlib.Core.Bool.{true};
 ghost use Rattle.std.specs.Vec.{made};
-ghost use Rattle.protocol.specs.Model.{housesOk};
 ghost use Rattle.protocol.specs.State.{emptyState};
 ghost use Rattle.orders.specs.Order.{entryModel};
 ghost use Rattle.ledger.specs.View.{view};
-ghost use Rattle.ledger.specs.Opening.{Replayed, Opened, EndOf};
+ghost use Rattle.ledger.specs.Opening.{Replayed, Opened, EndOf, isHouse, SaysFile, OpensOnce};
 use crate::Ledger;
 use crate::MAX_BYTES;
 use crate::SHELVES;
@@ -68,7 +66,8 @@ impl Ledger {
 
     // Applies the records of the file one after the other, up to its last whole one.
     fn replay(&mut self, houses: u8, bytes: &[u8], shelves: &mut [u32]) -> Result<(), Trouble>
-        requires { ⌜ view (now self) (now shelves) ≡ emptyState entryModel ⌝ }
+        requires house { ⌜ isHouse houses (now self .house) ≡ true ⌝ }
+        requires empty { ⌜ view (now self) (now shelves) ≡ emptyState entryModel ⌝ }
         ensures answer { λ r. ⌜ Replayed houses (now (self .entry) .house) (now (bytes .entry)) (view (now (self .exit)) (now (shelves .exit))) r ⌝ }
         ensures house { λ _. ⌜ now (self .exit) .house ≡ now (self .entry) .house ⌝ }
     {
@@ -89,7 +88,7 @@ impl Ledger {
 
 // Whether there may be so many houses, of which one has the number.
 fn is_house(houses: u8, house: u8) -> bool
-    ensures { λ r. ⌜ r ≡ (housesOk houses && ltb house houses) ⌝ }
+    ensures { λ r. ⌜ r ≡ isHouse houses house ⌝ }
 {
     houses_ok(houses) && house < houses
 }
@@ -102,4 +101,12 @@ fn end_of(read: Read) -> Result<(), Trouble>
         Read::Refused(why) => Err(Trouble::Refused(why)),
         _ => Ok(()),
     }
+}
+
+// The bytes of a file determine what opening it answers, and its state is what its records say.
+pub fn opening_laws() -> u8
+    ensures once { λ _. ⌜ OpensOnce ⌝ }
+    ensures says { λ _. ⌜ SaysFile ⌝ }
+{
+    0
 }

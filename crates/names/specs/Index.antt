@@ -16,5 +16,6 @@ noName n = false
 abbrev pub inHomes : List NameSet → Name → Bool
 inHomes ss n = getD (map inSet ss) (n .home) noName n
 
+-- is the name in the index
 abbrev pub inIndex : NameIndex → Name → Bool
 inIndex x n = inHomes (vec-items (x .homes)) n

@@ -1,3 +1,4 @@
+use Rattle.std.specs.BTreeSet.{has}
 use Rattle.std.proofs.shelf.Lawful.{tree-set-from-lawful, lawful-from-tree-set}
 use Rattle.std.proofs.shelf.Keyed.{sorted-inserted}
 use Rattle.names.specs.Names.{names}
@@ -12,4 +13,4 @@ ghost-self c =
 pub returns : need.returns
 returns c m =
     let u = tree-set-from-lawful names (c .args .self .now .set) (c .args .self .now .lawful) in
-    put-in m (c .args .name) _ _ (c .in-Continue-insert .ensures tt .inserted .2 names u .1 m)
+    put-in m (c .args .name) (has names (c .insert .last .self) m) (has names (c .args .self .now .set) m) (c .in-Continue-insert .ensures tt .inserted .2 names u .1 m)
