@@ -6,11 +6,12 @@ use Prim.Native.Nat.{ℕ, _+_, _≤_, _<_}
 use native.Mathlib.Omega.{arith}
 use lib.Dec.{eqb, ltb, ltb→lt, lt→ltb, T}
 use lib.ListN.{length, take}
+use lib.Seq.{take-all}
 use Rattle.std.specs.declared.result.Result.{Result}
 use Rattle.std.specs.declared.result.Result.the-variants.{Ok, Err}
 use Rattle.protocol.specs.declared.Name.{Name}
 use Rattle.protocol.specs.Model.{mostBytes}
-use Rattle.protocol.specs.House.{Held, Done, Dropped, Ruled, isHeld, isRuled}
+use Rattle.protocol.specs.House.{Held, Done, Dropped, Ruled, isHeld, isRuled, everHeld, ruled}
 use Rattle.protocol.specs.Net.{Memory, Told, asked}
 use Rattle.protocol.specs.State.{State, apply, recSize}
 use Rattle.protocol.specs.Plan.{Verdict, refused, does, unless, Output, Work, speak, noRoom, planLearn, planAnswer, planRule}
@@ -19,11 +20,12 @@ use Rattle.orders.specs.Order.{Order, Rec, Msg, entryModel}
 use Rattle.orders.specs.Encode.{recBytes}
 use Rattle.orders.specs.File.{allBytes}
 use Rattle.home.specs.Rulings.{ruledWork}
+use Rattle.steps.specs.declared.broken.Broken.{Broken}
 use Rattle.steps.specs.declared.broken.Trouble.{Trouble}
 use Rattle.steps.specs.declared.broken.Trouble.the-variants.{Refused, NoMemory, Down}
-use Rattle.steps.specs.Hosts.{World, appended, performed}
-use Rattle.steps.specs.Stepped.{Stepped, Noted, outputOf, outOf}
-use Rattle.steps.specs.Ties.{Tied, StillTied}
+use Rattle.steps.specs.Hosts.{World, appended, synced, performed, Syncs}
+use Rattle.steps.specs.Stepped.{Performs, Stepped, Noted, Answered, outputOf, outOf}
+use Rattle.steps.specs.Ties.{Tied, StillTied, SyncTied}
 use Rattle.steps.proofs.Driving.{note, note-step, note-tied}
 
 -- ANSWERS
@@ -90,3 +92,36 @@ fits t bytes len size e s l = is-false _ (λ k. omega (arith, ltb→lt mostBytes
 -- what the plan puts out
 pub out-of : (p : Verdict (Work entryModel)) (w : Work entryModel) → does w ≡ p → does (w .out) ≡ outOf p
 out-of p w e = ap (λ (q : Verdict (Work entryModel)). outOf q) e
+
+-- a yes is of a name that is ruled
+pub told-ruled : (d : Name) (p : Verdict (Output entryModel)) (v : State entryModel) (b : Bool) → b ≡ true → Answered d p v (Ok b) → v .ruled d ≡ true
+told-ruled d p v true e a = a .1
+told-ruled d p v false e a = let z : _≡_ {A = ℕ} 0 1 = cc in absurd (omega arith)
+
+-- SYNCING
+
+abbrev pub syncing : Output entryModel
+syncing = record { adds = []; syncs = true; sends = [] }
+
+synced-file : (x : World) → synced x ≡ performed syncing x
+synced-file x = λ k. record { file = sym (append-nil (x .file)) k; durable = length (sym (append-nil (x .file)) k); sent = sym (append-nil (x .sent)) k }
+
+pub synced-performs : (x y : World) (r : Result (Unit {0}) Broken) → Syncs x y r → Performs syncing x y r
+synced-performs x y (Ok tt) s = s ∙ synced-file x
+synced-performs x y (Err e) s = (0, s ∙ sym (append-nil (x .sent)))
+
+pub synced-tied : (i : ℕ) (x y : World) (v : State entryModel) (r : Result (Unit {0}) Broken) → Syncs x y r → Tied i x v → SyncTied i y v r
+synced-tied i x y v (Err e) s q = tt
+synced-tied i x y v (Ok tt) s q =
+    let whole : take (length (q .log)) (q .log) ≡ q .log = take-all (length (q .log)) (q .log) (omega arith) in
+    subst⁻¹ (λ (w : World). Tied i w v) s (record {
+      log = q .log;
+      kept = length (q .log);
+      few = omega arith;
+      within = omega arith;
+      file = q .file;
+      disk = take-all (length (x .file)) (x .file) (omega arith) ∙ q .file ∙ ap (λ (rs : List Rec). allBytes rs) (sym whole);
+      state = q .state;
+      held = λ d e. ap (λ (rs : List Rec). everHeld entryModel d rs) whole ∙ e;
+      rules = λ d e. ap (λ (rs : List Rec). ruled entryModel d rs) whole ∙ e;
+    })

@@ -7,7 +7,7 @@ use lib.ListN.{take}
 use Rattle.std.specs.declared.result.Result.{Result}
 use Rattle.std.specs.declared.result.Result.the-variants.{Ok, Err}
 use Rattle.protocol.specs.declared.Name.{Name}
-use Rattle.protocol.specs.Net.{Told}
+use Rattle.protocol.specs.Net as net
 use Rattle.protocol.specs.State.{State, apply, replay}
 use Rattle.protocol.specs.Plan.{Verdict, refused, does, Output, Work, speak}
 use Rattle.orders.specs.Order.{Rec, entryModel}
@@ -20,7 +20,7 @@ use Rattle.orders.specs.Refusals.{numberOf}
 use Rattle.steps.specs.declared.broken.Broken.{Broken}
 use Rattle.steps.specs.declared.broken.Trouble.{Trouble}
 use Rattle.steps.specs.declared.broken.Trouble.the-variants.{Refused, NoMemory, Down}
-use Rattle.steps.specs.Hosts.{World, appended, performed}
+use Rattle.steps.specs.Hosts.{World, appended, spoken, performed}
 
 -- the host did all of the output; where it failed, of the messages at most some first part went out
 abbrev pub Performs : Output entryModel → World → World → Result (Unit {0}) Broken → Type 0
@@ -72,6 +72,13 @@ Remembers p h k (Err Down) = Unit {0}
 
 -- what an answer says: yes of a name that is ruled, no, or that there is nothing to say
 abbrev pub Answered : Name → Verdict (Output entryModel) → State entryModel → Result Bool Refusal → Type 0
-Answered d p v (Ok true) = (does (speak entryModel (Told d true ∷ [])) ≡ p) × (v .ruled d ≡ true)
-Answered d p v (Ok false) = does (speak entryModel (Told d false ∷ [])) ≡ p
+Answered d p v (Ok true) = (does (speak entryModel (net.Told d true ∷ [])) ≡ p) × (v .ruled d ≡ true)
+Answered d p v (Ok false) = does (speak entryModel (net.Told d false ∷ [])) ≡ p
 Answered d p v (Err f) = refused (numberOf f) ≡ p
+
+-- an answer that was told, refused by its number, or not told since the host failed
+abbrev pub Told : Name → Verdict (Output entryModel) → World → World → Result Bool Trouble → Type 0
+Told d p x y (Ok b) = (does (speak entryModel (net.Told d b ∷ [])) ≡ p) × (y ≡ spoken (net.Told d b ∷ []) x)
+Told d p x y (Err (Refused f)) = (p ≡ refused (numberOf f)) × (y ≡ x)
+Told d p x y (Err NoMemory) = ⊥
+Told d p x y (Err Down) = (k : ℕ) × (y .sent ≡ x .sent ++ take k (outputOf p .sends))

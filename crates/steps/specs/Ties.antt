@@ -11,6 +11,7 @@ use Rattle.protocol.specs.House.{everHeld, ruled}
 use Rattle.protocol.specs.State.{State, stateOf}
 use Rattle.orders.specs.Order.{Rec, entryModel}
 use Rattle.orders.specs.File.{allBytes}
+use Rattle.steps.specs.declared.broken.Broken.{Broken}
 use Rattle.steps.specs.declared.broken.Trouble.{Trouble}
 use Rattle.steps.specs.declared.broken.Trouble.the-variants.{Refused, NoMemory, Down}
 use Rattle.steps.specs.Hosts.{World, onDisk}
@@ -34,3 +35,13 @@ StillTied i w v (Ok _) = Tied i w v
 StillTied i w v (Err (Refused f)) = Tied i w v
 StillTied i w v (Err NoMemory) = Tied i w v
 StillTied i w v (Err Down) = Unit {0}
+
+abbrev pub AnswerTied : ℕ → World → State entryModel → Result Bool Trouble → Type 0
+AnswerTied i w v (Ok _) = Tied i w v
+AnswerTied i w v (Err (Refused f)) = Tied i w v
+AnswerTied i w v (Err NoMemory) = Tied i w v
+AnswerTied i w v (Err Down) = Unit {0}
+
+abbrev pub SyncTied : ℕ → World → State entryModel → Result (Unit {0}) Broken → Type 0
+SyncTied i w v (Ok _) = Tied i w v
+SyncTied i w v (Err _) = Unit {0}

@@ -9,8 +9,8 @@ ghost use Rattle.ledger.specs.View.{view};
 ghost use Rattle.home.specs.Memory.{memoryOf};
 ghost use Rattle.home.specs.Verdicts.{inRange};
 ghost use Rattle.steps.specs.Hosts.{World};
-ghost use Rattle.steps.specs.Stepped.{Speaks, Answered, outOf, Remembers};
-ghost use Rattle.steps.specs.Ties.{Tied};
+ghost use Rattle.steps.specs.Stepped.{Speaks, Answered, Told, outOf, Remembers};
+ghost use Rattle.steps.specs.Ties.{Tied, AnswerTied};
 use crate::broken::Trouble;
 use crate::host::Host;
 use entries::named::NamedOrder;
@@ -76,4 +76,34 @@ fn decide_answer(ledger: &Ledger, shelves: &[u32], home: &Home, name: Name) -> R
         return Ok(false);
     }
     Err(Refusal::NothingToSay)
+}
+
+// What became of an order of this home is told, if the home can say.
+pub fn answer<H: Host>(
+    host: &mut H,
+    ledger: &Ledger,
+    shelves: &[u32],
+    home: &Home,
+    name: Name,
+) -> Result<bool, Trouble>
+    requires { ⌜ Tied (now ledger .house) (record { file = file (now host); durable = durable (now host); sent = sent (now host) }) (view (now ledger) (now shelves)) ⌝ }
+    ensures step { λ r. ⌜ Told name (planAnswer entryModel (now (ledger .entry) .house) name (view (now (ledger .entry)) (now (shelves .entry))) (memoryOf (now (home .entry)))) (record { file = file (now (host .entry)); durable = durable (now (host .entry)); sent = sent (now (host .entry)) }) (record { file = file (now (host .exit)); durable = durable (now (host .exit)); sent = sent (now (host .exit)) }) r ⌝ }
+    ensures tied { λ r. ⌜ AnswerTied (now (ledger .entry) .house) (record { file = file (now (host .exit)); durable = durable (now (host .exit)); sent = sent (now (host .exit)) }) (view (now (ledger .entry)) (now (shelves .entry))) r ⌝ }
+{
+    match decide_answer(ledger, shelves, home, name) {
+        Err(why) => Err(Trouble::Refused(why)),
+        Ok(yes) => {
+            if yes {
+                let Ok(_) = host.send(Message::Told(true, name), &NO_ENTRIES) else {
+                    return Err(Trouble::Down);
+                };
+                Ok(true)
+            } else {
+                let Ok(_) = host.send(Message::Told(false, name), &NO_ENTRIES) else {
+                    return Err(Trouble::Down);
+                };
+                Ok(false)
+            }
+        }
+    }
 }

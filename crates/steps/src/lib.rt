@@ -6,3 +6,4 @@ pub mod hold;
 pub mod host;
 pub mod learn;
 pub mod rule;
+pub mod sync;
