@@ -19,7 +19,7 @@ use Rattle.orders.proofs.Lengths.{sized}
 abbrev pub Small : List ℕ → Type 0
 Small bs = (i : ℕ) → Fits w8 (getD bs i 0)
 
-small-bytes : (bs : List ℕ) → Small bs → Bytes bs
+pub small-bytes : (bs : List ℕ) → Small bs → Bytes bs
 small-bytes [] s = tt
 small-bytes (b ∷ bs) s = (s 0 .fits, small-bytes bs (λ i. s (suc i)))
 

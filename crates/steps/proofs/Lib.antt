@@ -1,3 +1,4 @@
 pub mod Commits
 pub mod Driving
 pub mod Plans
+pub mod Starting

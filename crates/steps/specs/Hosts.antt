@@ -39,6 +39,11 @@ synced w = record { file = w .file; durable = length (w .file); sent = w .sent }
 abbrev pub spoken : List Msg → World → World
 spoken ms w = record { file = w .file; durable = w .durable; sent = w .sent ++ ms }
 
+-- a cut; what of the rest is durable then is not said
+abbrev pub Cuts : ℕ → World → World → Result (Unit {0}) Broken → Type 0
+Cuts len x y (Ok _) = (y .file ≡ take len (x .file)) × (y .sent ≡ x .sent)
+Cuts len x y (Err _) = y .sent ≡ x .sent
+
 -- an append; one that fails may have written some first part, and says nothing
 abbrev pub Appends : List ℕ → World → World → Result (Unit {0}) Broken → Type 0
 Appends bs x y (Ok _) = y ≡ appended bs x

@@ -7,3 +7,4 @@ pub mod host;
 pub mod learn;
 pub mod rule;
 pub mod sync;
+pub mod start;
