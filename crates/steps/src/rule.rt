@@ -1,4 +1,4 @@
-// A ruling: every house has said yes; it is noted, appended, synced, no longer asked about, and only then told.
+// A ruling: every house has said yes; it is noted, no longer asked about, appended, synced, and only then told.
 ghost use mathlib.Core.Path.{_≡_};
 ghost use Rattle.protocol.specs.Plan.{planRule};
 ghost use Rattle.orders.specs.Order.{entryModel};
@@ -48,9 +48,10 @@ pub fn rule<H: Host>(
     let Ok(_) = ledger.apply(shelves, ruled, &order.order) else {
         return (home, Err(Trouble::NoMemory));
     };
+    let home = home.stop_asking(order.name);
     let told = Message::Told(true, order.name);
     let Ok(_) = commit_and_send(host, ruled, told, &order.order) else {
         return (home, Err(Trouble::Down));
     };
-    (home.stop_asking(order.name), Ok(()))
+    (home, Ok(()))
 }

@@ -63,7 +63,7 @@ returns g c =
     let e = rule-done (c .args .name) (c .args .ledger .now .bytes) m t (stopAsking (t .name) m) (c .in-May .ensures tt) room refl in
     record {
       step = commit-step i (outOf p) (Ruled t) (Told (t .name) true) x y v u (out-of p (ruledWork t m) e) (c .in-Ok-commit-and-send .ensures tt) (c .in-Ok .ensures tt .view);
-      memory = c .stop-asking .ensures .memory ∙ ap (λ (q : Verdict (Work entryModel)). memoryAfter q m) e;
+      memory = c .stop-asking-home .ensures .memory ∙ ap (λ (q : Verdict (Work entryModel)). memoryAfter q m) e;
       tied = commit-tied i (Ruled t) (Told (t .name) true) x y v u (c .in-Ok-commit-and-send .ensures tt) (c .in-Ok .ensures tt .view) (c .pre);
       house = c .in-Ok .ensures tt .house;
     }
