@@ -1,0 +1,3 @@
+// Hosts in memory: one that keeps its log and what was sent, and one that fails at a chosen call, for tests.
+pub mod memory;
+pub mod faulty;
