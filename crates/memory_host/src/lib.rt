@@ -1,3 +1,6 @@
 // Hosts in memory: one that keeps its log and what was sent, and one that fails at a chosen call, for tests.
 pub mod memory;
 pub mod faulty;
+
+#[cfg(test)]
+mod tests;

@@ -24,7 +24,7 @@ use Rattle.steps.specs.declared.broken.Broken.{Broken}
 use Rattle.steps.specs.declared.broken.Trouble.{Trouble}
 use Rattle.steps.specs.declared.broken.Trouble.the-variants.{Refused, NoMemory, Down}
 use Rattle.steps.specs.Hosts.{World, appended, synced, performed, Syncs}
-use Rattle.steps.specs.Stepped.{Performs, Stepped, Noted, Answered, outputOf, outOf}
+use Rattle.steps.specs.Stepped.{Performs, Stepped, isDone, Noted, Answered, outputOf, outOf}
 use Rattle.steps.specs.Ties.{Tied, StillTied, SyncTied}
 use Rattle.steps.proofs.Driving.{note, note-step, note-tied}
 
@@ -64,10 +64,14 @@ noted-file r x = λ k. record { file = x .file ++ sym (append-nil (recBytes r)) 
 sent-none : (ms : List Msg) (p : Verdict (Output entryModel)) (x y : World) → y .sent ≡ x .sent → (k : ℕ) × (y .sent ≡ x .sent ++ take k (outputOf p .sends))
 sent-none ms p x y e = (0, e ∙ sym (append-nil (x .sent)))
 
+-- a step that adds a record
+pub adds-one : (p : Verdict (Output entryModel)) (r : Rec) (b : Bool) (ms : List Msg) → does (record { adds = r ∷ []; syncs = b; sends = ms }) ≡ p → (isDone p ≡ true) × (0 < length (outputOf p .adds))
+adds-one p r b ms e = subst (λ (q : Verdict (Output entryModel)). (isDone q ≡ true) × (0 < length (outputOf q .adds))) e (refl, omega arith)
+
 pub noted-step : (i : ℕ) (p : Verdict (Output entryModel)) (r : Rec) (x y : World) (v u : State entryModel) (a : Result (Unit {0}) Trouble) → does (note r) ≡ p → Noted i r x y v u a → Stepped i p x y v u a
 noted-step i p r x y v u (Ok tt) e n = note-step i p r x y v u e (n .0 ∙ noted-file r x) (n .1)
 noted-step i p r x y v u (Err (Refused f)) e n = absurd n
-noted-step i p r x y v u (Err NoMemory) e n = n
+noted-step i p r x y v u (Err NoMemory) e n = let w = adds-one p r false [] e in (n .0, n .1, w .0, w .1)
 noted-step i p r x y v u (Err Down) e n = sent-none [] p x y n
 
 pub noted-tied : (i : ℕ) (r : Rec) (x y : World) (v u : State entryModel) (a : Result (Unit {0}) Trouble) → ((d : Name) → isHeld entryModel d r ≡ false) → ((d : Name) → isRuled entryModel d r ≡ false) →

@@ -2,8 +2,8 @@
 use mathlib.Core.Path.{_≡_}
 use mathlib.Core.Bool.{Bool, true, false}
 use mathlib.Core.List.{List, [], _∷_, _++_}
-use Prim.Native.Nat.{ℕ}
-use lib.ListN.{take}
+use Prim.Native.Nat.{ℕ, _<_}
+use lib.ListN.{length, take}
 use Rattle.std.specs.declared.result.Result.{Result}
 use Rattle.std.specs.declared.result.Result.the-variants.{Ok, Err}
 use Rattle.protocol.specs.declared.Name.{Name}
@@ -41,12 +41,12 @@ abbrev pub outOf : Verdict (Work entryModel) → Verdict (Output entryModel)
 outOf (refused k) = refused k
 outOf (does w) = does (w .out)
 
--- Ok: the step is done, the host performed its output, and the house knows the records that it added; refused by its number, or for want of memory:
--- all is as it was; where the host failed: of the messages at most some first part went out
+-- Ok: the step is done, the host performed its output, and the house knows the records that it added; refused by its number, or, where a record was
+-- to be added, for want of memory: all is as it was; where the host failed: of the messages at most some first part went out
 abbrev pub Stepped : ℕ → Verdict (Output entryModel) → World → World → State entryModel → State entryModel → Result (Unit {0}) Trouble → Type 0
 Stepped i p x y v u (Ok _) = (isDone p ≡ true) × (y ≡ performed (outputOf p) x) × (u ≡ replay entryModel i (outputOf p .adds) v)
 Stepped i p x y v u (Err (Refused f)) = (p ≡ refused (numberOf f)) × (y ≡ x) × (u ≡ v)
-Stepped i p x y v u (Err NoMemory) = (y ≡ x) × (u ≡ v)
+Stepped i p x y v u (Err NoMemory) = (y ≡ x) × (u ≡ v) × (isDone p ≡ true) × (0 < length (outputOf p .adds))
 Stepped i p x y v u (Err Down) = (k : ℕ) × (y .sent ≡ x .sent ++ take k (outputOf p .sends))
 
 -- the record is noted and appended, or there was no memory for it, or the host failed and nothing was said

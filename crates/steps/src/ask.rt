@@ -51,7 +51,8 @@ pub fn give_up<H: Host>(host: &mut H, home: Home, name: Name) -> (Home, Result<(
     match decided {
         Err(why) => (home, Err(Trouble::Refused(why))),
         Ok(_) => {
-            let Ok(_) = host.send(Message::Told(false, name), &NO_ENTRIES) else {
+            let no = Message::Told(false, name);
+            let Ok(_) = host.send(no, &NO_ENTRIES) else {
                 return (home, Err(Trouble::Down));
             };
             (home, Ok(()))

@@ -1,4 +1,4 @@
-use mathlib.Core.Path.{_≡_, refl, sym, ap, _∙_, subst}
+use mathlib.Core.Path.{_≡_, refl, sym, ap, _∙_, subst⁻¹}
 use mathlib.Core.List.{List, [], _∷_, _++_}
 use Prim.Native.Nat.{ℕ}
 use lib.ListN.{take}
@@ -15,9 +15,11 @@ use Rattle.home.specs.Verdicts.{memoryAfter, stopAsking}
 use Rattle.home.specs.Rulings.{ruledWork}
 use Rattle.home.proofs.Rules.{rule-refused, rule-full, rule-done}
 use Rattle.steps.specs.Hosts.{World}
+use Rattle.protocol.specs.State.{State}
 use Rattle.steps.specs.Stepped.{outOf, outputOf}
+use Rattle.steps.specs.Ties.{Tied}
 use Rattle.steps.proofs.Driving.{rule-backed, commit, commit-step, commit-tied}
-use Rattle.steps.proofs.Plans.{full, fits, out-of}
+use Rattle.steps.proofs.Plans.{full, fits, out-of, adds-one}
 use Rattle.steps.proofs.rule.rule.Needs as need
 
 pub returns-in-Refused : need.returns-in-Refused
@@ -31,6 +33,19 @@ returns-then-bytes-record-len-gt-MAX-BYTES g c =
     let e = rule-full (c .args .name) (c .args .ledger .now .bytes) (memoryOf (c .args .home)) t (c .in-May .ensures tt)
     (full t (c .args .ledger .now .bytes) (c .bytes .result) (c .record-len .result) (sym (c .bytes .ensures .value)) (c .record-len .ensures .held) (c .if-bytes-record-len-gt-MAX-BYTES .taken)) in
     record { step = (sym (ap (λ (p : Verdict (Work entryModel)). outOf p) e), refl, refl); memory = refl; tied = c .pre; house = refl }
+
+-- no memory for the record
+pub returns-in-rest : need.returns-in-rest
+returns-in-rest g c =
+    let x : World = record { file = g .H·Host .file (c .args .host .now); durable = g .H·Host .durable (c .args .host .now); sent = g .H·Host .sent (c .args .host .now) } in
+    let t = namedOf (c .in-May .order) in
+    let m = memoryOf (c .args .home) in
+    let p = planRule entryModel (c .args .name) (c .args .ledger .now .bytes) m in
+    let e = rule-done (c .args .name) (c .args .ledger .now .bytes) m t (stopAsking (t .name) m) (c .in-May .ensures tt)
+    (fits t (c .args .ledger .now .bytes) (c .bytes .result) (c .record-len .result) (sym (c .bytes .ensures .value)) (c .record-len .ensures .held) (c .if-bytes-record-len-gt-MAX-BYTES .left)) refl in
+    let w = adds-one (outOf p) (Ruled t) true (Told (t .name) true ∷ []) (out-of p (ruledWork t m) e) in
+    let q = c .in-rest .ensures tt in
+    record { step = (refl, q .view, w .0, w .1); memory = refl; tied = subst⁻¹ (λ (v : State entryModel). Tied (c .args .ledger .now .house) x v) (q .view) (c .pre); house = q .house }
 
 pub commit-and-send-requires : need.commit-and-send-requires
 commit-and-send-requires g c κs = rule-backed _ _ _ (namedOf (c .in-May .order)) (c .pre)
