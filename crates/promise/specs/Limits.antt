@@ -30,7 +30,7 @@ other = order (name 1 1 0) [] (entry 65700 1 ∷ [])
 abbrev changed : Order
 changed = order (name 0 1 3) [] (entry 65539 2 ∷ [])
 
--- with 64 asked about and 64 held back, every refusal from 1 to 14
+-- with 64 asked about and 64 held back: refusals 1, 2, 4 to 7 and 11 to 14; 8, 9 and 10 are in the worked cases, 3 and 15 in AllFull
 abbrev pub refusals : List Row
 refusals =
     record { plays = many 64; shelves = []; held = (0, []) ∷ []; starts = []; rulings = [] }
