@@ -1,19 +1,19 @@
 -- A house's shelves, by item, against one shelf for each key.
 use mathlib.Core.Path.{_≡_, refl, sym, _∙_, ap, subst, subst⁻¹}
-use mathlib.Core.Logic.{_⊎_, inl, inr}
-use mathlib.Core.Bool.{Bool, true, false, cond, _&&_, _||_, not}
+use mathlib.Core.Logic.{inl, inr}
+use mathlib.Core.Bool.{Bool, cond, _&&_, not}
 use mathlib.Core.List.{List, [], _∷_, List·Memᴰ, List·Memᴰ·head, List·Memᴰ·tail, List·Memᴰ·cases-cons}
-use Prim.Native.Nat.{ℕ, _+_, _≤_, _<_, _/_, _%_}
+use Prim.Native.Nat.{ℕ, _<_}
 use native.Mathlib.Omega.{arith}
 use lib.Dec.{T, T-not, eqb, eqb→eq, eqb-refl, ltb, leb, leb→le}
 use lib.ListN.{length, getD, set, length-set}
 use lib.Seq.{getD-set-same}
 use Rattle.protocol.specs.Model.{nameOk, doAll, playedAll, SerialAll}
 use Rattle.protocol.specs.Sound.{settle}
-use Rattle.protocol.proofs.Basics.{is-true, is-false, byBool, or-l, or-r, or-cases, and-l, and-r}
+use Rattle.protocol.proofs.Basics.{is-true, byBool, or-l, or-r, or-cases, and-l, and-r}
 use Rattle.orders.specs.declared.Entry.{Entry}
-use Rattle.orders.specs.Order.{Order, houseOf, itemOf, put, ours, touches, inHouse, party, asSaid, seenHere, entryOk, entriesOk, listsOk, orderOk, entryModel}
-use Rattle.promise.specs.Promise.{write, writeAll, played, Seen, Serial, pending, nothing}
+use Rattle.orders.specs.Order.{Order, houseOf, itemOf, put, ours, touches, inHouse, asSaid, seenHere, entryOk, entriesOk, listsOk, orderOk, entryModel}
+use Rattle.promise.specs.Promise.{write, writeAll, played, Serial, pending}
 use Rattle.promise.proofs.OrderLaws.{put-still, ours-still}
 
 -- an item that a house has

@@ -1,23 +1,22 @@
 -- Orders that read and write entries keep the laws.
-use mathlib.Core.Path.{_≡_, refl, sym, _∙_, ap, ap₂, subst, subst⁻¹, fun-ext}
-use mathlib.Core.Logic.{_⊎_, inl, inr}
-use mathlib.Core.Bool.{Bool, true, false, cond, _&&_, not}
+use mathlib.Core.Path.{_≡_, refl, sym, _∙_, ap, ap₂, subst, subst⁻¹}
+use mathlib.Core.Logic.{inl, inr}
+use mathlib.Core.Bool.{Bool, cond, _&&_, not}
 use mathlib.Core.List.{List, [], _∷_, _++_, List·Memᴰ, List·Memᴰ·head, List·Memᴰ·tail, List·Memᴰ·cases-cons, Memᴰ·append-left, Memᴰ·append-right}
-use Prim.Native.Nat.{ℕ, zero, suc, _+_, _≤_, _<_}
+use Prim.Native.Nat.{ℕ, _+_}
 use native.Mathlib.Omega.{arith}
 use lib.Dec.{T, T-not}
-use lib.ListN.{length, take, getD, set}
+use lib.ListN.{getD, set}
 use lib.Seq.{getD-set-other, set-comm}
 use Rattle.protocol.specs.declared.Name.{Name}
-use Rattle.protocol.specs.Model.{Model, sameName, playedAll, SerialAll}
+use Rattle.protocol.specs.Model.{sameName}
 use Rattle.protocol.specs.Laws.{Laws}
-use lib.Dec.{eqb, eqb→eq, eqb-refl, not-T}
+use lib.Dec.{eqb, eqb→eq, eqb-refl}
 use mathlib.Core.Bool.{_||_}
 use Rattle.orders.specs.declared.Entry.{Entry}
-use Rattle.protocol.specs.Model.{doAll, Sees}
 use Rattle.protocol.specs.House.{without}
-use Rattle.orders.specs.Order.{Order, houseOf, itemOf, anyBy, allBy, put, touches, meets, clash, inHouse, party, ours, clashes, asSaid, seenHere, entryModel, housesOf, sameEntry, sameEntries, sameOrder}
-use Rattle.protocol.proofs.Basics.{decide, is-true, is-false, same-eq, same-refl, byBool, or-l, or-r, or-cases, and-l, and-r, and-both, snoc-cases}
+use Rattle.orders.specs.Order.{Order, houseOf, itemOf, put, touches, meets, clash, inHouse, party, ours, clashes, asSaid, seenHere, entryModel, housesOf, sameEntry, sameEntries, sameOrder}
+use Rattle.protocol.proofs.Basics.{is-false, same-eq, same-refl, byBool, or-l, or-r, or-cases, and-l, and-r, and-both, snoc-cases}
 use Rattle.protocol.proofs.Held.{without-mem}
 
 -- tests as facts

@@ -1,11 +1,9 @@
 -- The promise of the whole and its parts, for orders that read and write entries.
 use mathlib.Core.Path.{_≡_, refl, sym, _∙_, ap}
-use mathlib.Core.Logic.{_⊎_, inl, inr}
-use mathlib.Core.Bool.{Bool, true, false}
+use mathlib.Core.Logic.{inl, inr}
 use mathlib.Core.List.{List, [], _∷_, List·Memᴰ, List·Memᴰ·head, List·Memᴰ·tail}
-use Prim.Native.Nat.{ℕ, zero, suc, _+_}
+use Prim.Native.Nat.{ℕ, zero, suc}
 use native.Mathlib.Omega.{arith}
-use lib.Dec.{T}
 use lib.ListN.{getD, replicate, length-replicate}
 use Rattle.protocol.specs.Model.{sameName, playedAll}
 use Rattle.protocol.specs.House.{Held, Dropped, Ruled, stock}
@@ -14,9 +12,8 @@ use Rattle.protocol.proofs.Basics.{decide, same-eq, eq-same}
 use Rattle.protocol.proofs.Reached as reached
 use Rattle.protocol.proofs.Runs as runs
 use Rattle.protocol.proofs.Valid.{done-valid}
-use Rattle.orders.specs.declared.Entry.{Entry}
-use Rattle.orders.specs.Order.{Order, houseOf, itemOf, entryModel}
-use Rattle.promise.specs.Promise.{Net, Reach, Step, Command, after, next, Always, OnRuns, heldBack, nothing, writeAll, played, Seen, Serial, Whole, Main, MainRun, OneName, AllOrNone, Final, Apart, Answers, KeptBetween, Kept, KeptRun, total, KeepsSum, Conserved, Parts}
+use Rattle.orders.specs.Order.{Order, itemOf, entryModel}
+use Rattle.promise.specs.Promise.{Net, Reach, after, Always, OnRuns, heldBack, nothing, writeAll, played, Serial, Whole, Main, MainRun, OneName, AllOrNone, Final, Apart, Answers, KeptBetween, Kept, KeptRun, total, KeepsSum, Conserved, Parts}
 use Rattle.promise.proofs.OrderLaws.{order-laws, fit-clear}
 use Rattle.promise.proofs.Keys.{Linked, AllItems, order-items, linked-played, linked-serial, settle-still}
 

@@ -1,25 +1,22 @@
 -- The ledger's format as a codec of the network, and what holds where machines stop at any moment.
-use mathlib.Core.Path.{_≡_, refl, sym, _∙_, ap, subst, subst⁻¹}
-use mathlib.Core.Bool.{Bool, true, _&&_}
-use mathlib.Core.List.{List, _++_}
-use mathlib.Core.Option.{Option}
-use Prim.Native.Nat.{ℕ, _<_}
+use mathlib.Core.Path.{refl, ap, subst, subst⁻¹}
+use mathlib.Core.Bool.{Bool}
+use Prim.Native.Nat.{ℕ}
 use lib.Dec.{T}
-use lib.ListN.{length, take}
 use Rattle.protocol.specs.Model.{housesOk, nameOk}
-use Rattle.protocol.specs.House.{Began, Held, Done, Dropped, Ruled}
-use Rattle.protocol.specs.Crash.{Codec, FitsValid}
+use Rattle.protocol.specs.House.{Held, Done, Dropped, Ruled}
+use Rattle.protocol.specs.Crash.{Codec}
 use Rattle.protocol.proofs.Basics.{is-true, and-both}
 use Rattle.protocol.proofs.Covered.{interrupted}
 use Rattle.protocol.proofs.OneStep.{one-step}
 use Rattle.protocol.proofs.Accepts.{accepts}
-use Rattle.orders.specs.Order.{Order, Rec, recOk, orderOk, entryModel}
+use Rattle.orders.specs.Order.{Rec, recOk, orderOk, entryModel}
 use Rattle.orders.specs.Encode.{recBytes}
 use Rattle.orders.specs.Parse.{Got, parse}
 use Rattle.orders.proofs.Lengths.{sized}
 use Rattle.orders.proofs.ReadBack.{reads-back}
 use Rattle.orders.proofs.Longer.{cut-short}
-use Rattle.promise.specs.Crash.{recordOf, IsLedger, LedgerCodec, LedgerFits, MainStopped, Accepts, OneStep}
+use Rattle.promise.specs.Crash.{recordOf, LedgerCodec, LedgerFits, MainStopped, Accepts, OneStep}
 use Rattle.promise.proofs.OrderLaws.{order-laws}
 use Rattle.promise.proofs.Promises.{main-run}
 

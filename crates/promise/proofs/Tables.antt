@@ -1,5 +1,5 @@
 -- The worked cases and the limits, by computation.
-use mathlib.Core.Path.{_≡_, refl}
+use mathlib.Core.Path.{refl}
 use Rattle.protocol.specs.House.{starts, holding, stockFrom, everHeld, isIn, without, doneOf, ruled}
 use Rattle.protocol.specs.Net.{asked, voted, dropAsk}
 use Rattle.protocol.specs.State.{fileSize}

@@ -1,14 +1,14 @@
 -- How a worked case is written down and checked: commands, what each answers, and what then stands.
 -- Assumes nothing.
 use mathlib.Core.Bool.{Bool, true, false, _&&_}
-use mathlib.Core.List.{List, [], _∷_, _++_}
+use mathlib.Core.List.{List, [], _∷_}
 use Prim.Native.Nat.{ℕ}
 use lib.Dec.{eqb}
 use Rattle.protocol.specs.declared.Name.{Name}
 use Rattle.protocol.specs.Model.{sameName}
 use Rattle.protocol.specs.House.{starts}
 use Rattle.protocol.specs.Net.{Net, Hold, Yes, Told}
-use Rattle.protocol.specs.Plan.{Verdict, refused, does, doSubmit, doHold, doVote, doRule, doGiveUp, doAnswer, doLearn}
+use Rattle.protocol.specs.Plan.{refused, does, doSubmit, doHold, doVote, doRule, doGiveUp, doAnswer, doLearn}
 use Rattle.protocol.specs.Run.{Command, deliver, stopAt, Answer, sameMsg, step}
 use Rattle.orders.specs.declared.Entry.{Entry}
 use Rattle.orders.specs.Order.{Order, Msg, houseOf, entryModel}

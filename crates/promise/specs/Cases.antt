@@ -1,7 +1,7 @@
 -- The worked cases A to G: rows of one table, played one after the other from empty ledgers on, among two houses.
 -- Assumes nothing.
 use mathlib.Core.Path.{_≡_}
-use mathlib.Core.Bool.{Bool, true, false}
+use mathlib.Core.Bool.{true, false}
 use mathlib.Core.List.{List, [], _∷_, _++_}
 use Prim.Native.Nat.{ℕ}
 use Rattle.protocol.specs.declared.Name.{Name}
@@ -9,7 +9,7 @@ use Rattle.protocol.specs.Net.{start}
 use Rattle.protocol.specs.Plan.{doHold, doRule, doAnswer, doLearn}
 use Rattle.protocol.specs.Run.{deliver}
 use Rattle.orders.specs.Order.{Order, entryModel}
-use Rattle.promise.specs.Case.{Row, pass, name, entry, order, sends, refusedBy, submits, holds, agrees, rules, givesUp, answersNo, learns, stops}
+use Rattle.promise.specs.Case.{Row, pass, name, entry, order, refusedBy, submits, holds, agrees, rules, givesUp, answersNo, learns, stops}
 
 abbrev a : Order
 a = order (name 0 1 0) [] (entry 5 3 ∷ entry 65541 2 ∷ [])

@@ -2,8 +2,8 @@
 -- Assumes nothing.
 use mathlib.Core.Path.{_≡_}
 use mathlib.Core.Logic.{_⊎_}
-use mathlib.Core.Bool.{Bool, true, false, cond, _&&_, _||_, not}
-use mathlib.Core.List.{List, [], _∷_, _++_, List·Memᴰ}
+use mathlib.Core.Bool.{Bool, false, cond, _||_}
+use mathlib.Core.List.{List, [], _∷_, List·Memᴰ}
 use Prim.Native.Nat.{ℕ, _+_, _<_}
 use lib.Dec.{eqb, T}
 use lib.ListN.{getD}
@@ -18,7 +18,7 @@ use Rattle.protocol.specs.State as state
 use Rattle.protocol.specs.Opens as opens
 use Rattle.protocol.specs.Exact as exact
 use Rattle.orders.specs.declared.Entry.{Entry}
-use Rattle.orders.specs.Order.{Order, Rec, houseOf, itemOf, touches, clash, party, entryModel}
+use Rattle.orders.specs.Order.{Order, houseOf, itemOf, touches, clash, party, entryModel}
 
 -- ORDERS DONE ALONE, one after the other, on shelves that have an amount for each key
 

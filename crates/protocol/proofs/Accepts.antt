@@ -1,23 +1,23 @@
 -- Whatever comes to a house with its numbers in range leads only to records that can be written.
-use mathlib.Core.Path.{_≡_, refl, sym, subst, subst⁻¹}
+use mathlib.Core.Path.{subst, subst⁻¹}
 use mathlib.Core.Bool.{Bool, true, false, cond, not}
-use mathlib.Core.List.{List, [], _∷_, _++_, List·Memᴰ}
-use Prim.Native.Nat.{ℕ, _<_}
+use mathlib.Core.List.{List, [], _∷_}
+use Prim.Native.Nat.{ℕ}
 use lib.Dec.{T, eqb, ltb, lt→ltb}
 use Rattle.protocol.specs.declared.Name.{Name}
 use Rattle.protocol.specs.Model.{Model, housesOk, nameOk}
 use Rattle.protocol.specs.Laws.{Laws}
-use Rattle.protocol.specs.House.{Rec, Began, Held, Done, Dropped, Ruled, holding, ruled}
-use Rattle.protocol.specs.Net.{House, Msg, Yes, Net, start, Reach}
+use Rattle.protocol.specs.House.{Done, Dropped, holding, ruled}
+use Rattle.protocol.specs.Net.{House, Yes, Net, start, Reach}
 use Rattle.protocol.specs.State.{stateOf}
 use Rattle.protocol.specs.Plan.{Input, doSubmit, doHold, doVote, doRule, doGiveUp, doAnswer, doLearn, doSync, Verdict, refused, does, Output, Work, speak, isHeldBack, keeping, plan, planNewHold, planRuleOf, planGiveUpOf}
-use Rattle.protocol.specs.Run.{deliver, act, arrived, inputOk, houseOk, step, run}
-use Rattle.protocol.specs.Crash.{Codec, AllFit, combineWith, batch, AllTaken, System, Occurs, FitsValid, AcceptsAt}
+use Rattle.protocol.specs.Run.{deliver, inputOk, houseOk, step, run}
+use Rattle.protocol.specs.Crash.{Codec, AllFit, combineWith, batch, AllTaken, FitsValid, AcceptsAt}
 use Rattle.protocol.proofs.Basics.{and-both}
 use Rattle.protocol.proofs.Reached.{reach-keeps}
 use Rattle.protocol.proofs.Valid.{sent-valid}
 use Rattle.protocol.proofs.Runs.{by-unless, by-cond, ask-mem, step-reach, run-start}
-use Rattle.protocol.proofs.Local.{Only, step-only, all-more}
+use Rattle.protocol.proofs.Local.{step-only, all-more}
 use Rattle.protocol.proofs.Torn.{fit-both}
 use Rattle.protocol.proofs.Covered.{interrupted}
 

@@ -1,18 +1,17 @@
 -- A house does a step whenever it may.
 use mathlib.Core.Path.{_≡_, refl, _∙_, ap}
 use mathlib.Core.Bool.{Bool, true, false, cond, not}
-use mathlib.Core.List.{List, [], _∷_}
-use mathlib.Core.Option.{Option, none, some}
+use mathlib.Core.List.{[], _∷_}
+use mathlib.Core.Option.{Option}
 use Prim.Native.Nat.{ℕ, _+_, _<_, _≤_}
 use native.Mathlib.Omega.{arith}
 use lib.Dec.{T, leb, leb→le, ltb, ltb→lt}
 use lib.ListN.{length}
-use Rattle.protocol.specs.declared.Name.{Name}
 use Rattle.protocol.specs.Model.{Model, mostHeld, mostBytes}
-use Rattle.protocol.specs.House.{Rec, Held, Done, Dropped, Ruled, isIn}
-use Rattle.protocol.specs.Net.{Asking, Memory, Yes}
+use Rattle.protocol.specs.House.{Held, Ruled}
+use Rattle.protocol.specs.Net.{Asking, Yes}
 use Rattle.protocol.specs.State.{State, recSize}
-use Rattle.protocol.specs.Plan.{Verdict, refused, does, Causes, unless, Output, speak, noRoom, isHeldBack, planHold, planNewHold, planLearn, askOf, allYes, planRuleOf, planRule}
+use Rattle.protocol.specs.Plan.{Verdict, refused, does, Causes, unless, Output, speak, noRoom, isHeldBack, planHold, planNewHold, planRuleOf}
 use Rattle.protocol.specs.Exact.{ExactAt, Exact}
 use Rattle.protocol.proofs.Basics.{is-true, is-false}
 use Rattle.protocol.proofs.Runs.{Clear}

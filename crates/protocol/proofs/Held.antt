@@ -1,15 +1,15 @@
 -- Lists of orders by their names, and what a file says, one record at a time.
 use mathlib.Core.Path.{_≡_, refl, sym, _∙_, ap, subst, subst⁻¹}
 use mathlib.Core.Logic.{_⊎_, inl, inr}
-use mathlib.Core.Bool.{Bool, true, false, cond, _&&_, _||_, not}
+use mathlib.Core.Bool.{cond}
 use mathlib.Core.List.{List, [], _∷_, _++_, List·Memᴰ, List·Memᴰ·head, List·Memᴰ·tail, List·Memᴰ·cases-cons}
-use Prim.Native.Nat.{ℕ, zero, suc, _+_, _≤_, _<_}
+use Prim.Native.Nat.{ℕ, _+_}
 use native.Mathlib.Omega.{arith}
 use lib.Dec.{T}
 use Rattle.protocol.specs.declared.Name.{Name}
 use Rattle.protocol.specs.Model.{Model, sameName}
-use Rattle.protocol.specs.House.{Rec, Began, Held, Done, Dropped, Ruled, countBegan, starts, without, holdNext, holding, doneOf, stockNext, stockFrom, stock, everHeld, isHeld, isRuled, ruled, isIn}
-use Rattle.protocol.proofs.Basics.{decide, is-true, is-false, byBool, byId, or-l, or-r, or-cases, same-eq, eq-same, same-refl, snoc-cases, snoc-old, snoc-last}
+use Rattle.protocol.specs.House.{Rec, Began, Held, Done, Dropped, Ruled, countBegan, starts, without, holdNext, holding, stockNext, stockFrom, stock, everHeld, isHeld, isRuled, ruled, isIn}
+use Rattle.protocol.proofs.Basics.{decide, is-true, is-false, byId, or-l, or-r, or-cases, same-eq, eq-same, same-refl, snoc-cases, snoc-old, snoc-last}
 
 module _ (M : Model) where
   -- no two of one name

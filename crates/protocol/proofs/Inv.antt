@@ -1,16 +1,16 @@
 -- What every reachable network keeps to.
-use mathlib.Core.Path.{_≡_, refl, sym, _∙_, ap, subst, subst⁻¹, fun-ext}
+use mathlib.Core.Path.{_≡_, refl, sym, _∙_, subst, subst⁻¹, fun-ext}
 use mathlib.Core.Logic.{_⊎_, inl, inr}
 use mathlib.Core.Bool.{Bool, true, false, cond}
-use mathlib.Core.List.{List, [], _∷_, _++_, List·Memᴰ, List·Memᴰ·head, List·Memᴰ·tail, List·Memᴰ·cases-cons}
-use Prim.Native.Nat.{ℕ, zero, suc, _+_, _≤_, _<_}
+use mathlib.Core.List.{List, [], _∷_, _++_, List·Memᴰ, List·Memᴰ·cases-cons}
+use Prim.Native.Nat.{ℕ, _+_, _≤_, _<_}
 use native.Mathlib.Omega.{arith}
 use native.Mathlib.Decide.{decLe}
 use lib.Dec.{T, eqb, eqb→eq, eqb-refl}
 use lib.ListN.{length, take, length-append}
 use lib.Seq.{take-all, take-append-le}
 use Rattle.protocol.specs.declared.Name.{Name}
-use Rattle.protocol.specs.Model.{Model, sameName, playedAll, SerialAll}
+use Rattle.protocol.specs.Model.{Model, playedAll, SerialAll}
 use Rattle.protocol.specs.Laws.{Laws}
 use Rattle.protocol.specs.House.{Rec, Began, Held, Done, Dropped, Ruled, starts, holding, stock, isIn}
 use Rattle.protocol.specs.Net.{Asking, House, Msg, Hold, Yes, Told, Net, at, wrote}

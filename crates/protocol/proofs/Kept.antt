@@ -1,18 +1,17 @@
 -- A stop that keeps the bytes of some whole records keeps those records.
 use mathlib.Core.Path.{_≡_, refl, sym, _∙_, ap, ap₂}
-use mathlib.Core.Bool.{Bool, true, false, cond}
+use mathlib.Core.Bool.{Bool, cond}
 use mathlib.Core.List.{List, [], _∷_}
 use Prim.Native.Nat.{ℕ, zero, suc, _+_, _-_, _≤_, _<_}
 use native.Mathlib.Omega.{arith}
 use native.Mathlib.Decide.{decLe}
-use lib.Dec.{T, leb, le→leb, leb→le, ltb, ltb→lt}
+use lib.Dec.{leb, le→leb, leb→le}
 use lib.ListN.{length, take, drop, length-drop}
 use lib.Seq.{take-all, length-take-le}
 use Rattle.protocol.specs.Model.{Model}
 use Rattle.protocol.specs.House.{Rec, Began, Held, Done, Dropped, Ruled}
-use Rattle.protocol.specs.Net.{House}
 use Rattle.protocol.specs.State.{recSize, fileSize}
-use Rattle.protocol.specs.Plan.{wholeIn, unsynced}
+use Rattle.protocol.specs.Plan.{wholeIn}
 use Rattle.protocol.proofs.Basics.{is-true, is-false}
 
 module _ (M : Model) where

@@ -1,22 +1,21 @@
 -- After any list of commands every file is within the limits, and so it opens.
-use mathlib.Core.Path.{_≡_, refl, sym, _∙_, ap, subst, subst⁻¹}
+use mathlib.Core.Path.{_≡_, refl, subst, subst⁻¹}
 use mathlib.Core.Logic.{_⊎_, inl, inr}
-use mathlib.Core.Bool.{Bool, true, false, cond, _&&_, _||_, not}
+use mathlib.Core.Bool.{true, false, cond, _&&_, not}
 use mathlib.Core.List.{List, [], _∷_, _++_}
-use Prim.Native.Nat.{ℕ, zero, suc, _+_, _≤_, _<_}
+use Prim.Native.Nat.{ℕ, _+_, _≤_, _<_}
 use native.Mathlib.Omega.{arith}
 use native.Mathlib.Decide.{decLe}
 use lib.Dec.{T, eqb, ltb, lt→ltb, leb, le→leb}
 use lib.ListN.{length, take}
-use Rattle.protocol.specs.declared.Name.{Name}
 use Rattle.protocol.specs.Model.{Model, mostHeld, mostStarts, mostBytes}
 use Rattle.protocol.specs.Laws.{Laws}
-use Rattle.protocol.specs.House.{Rec, Began, Held, Done, Dropped, Ruled, starts, holding, ruled, isIn}
-use Rattle.protocol.specs.Net.{House, Msg, Yes, Net, start, begun, at, restarted}
-use Rattle.protocol.specs.State.{State, stateOf, emptyState, recSize, fileSize, withinLimits, allLawful, allWithin, opens}
-use Rattle.protocol.specs.Plan.{Input, doSubmit, doHold, doVote, doRule, doGiveUp, doAnswer, doLearn, doSync, Verdict, refused, does, unless, Output, Work, speak, isHeldBack, keeping, plan, planNewHold, planRuleOf, planGiveUpOf, added, noRoom, unsynced, wholeIn, restart}
+use Rattle.protocol.specs.House.{Rec, Began, Held, Done, Dropped, Ruled, starts, ruled}
+use Rattle.protocol.specs.Net.{House, Yes, Net, start, at}
+use Rattle.protocol.specs.State.{State, stateOf, emptyState, recSize, fileSize, withinLimits, allLawful, allWithin}
+use Rattle.protocol.specs.Plan.{Input, doSubmit, doHold, doVote, doRule, doGiveUp, doAnswer, doLearn, doSync, Verdict, refused, does, Output, Work, speak, isHeldBack, keeping, plan, planNewHold, planRuleOf, planGiveUpOf, added, noRoom, unsynced, wholeIn, restart}
 use Rattle.protocol.specs.Run.{Command, deliver, stopAt, Answer, arrived, inputOk, houseOk, delivered, cameUp, step, run}
-use Rattle.protocol.specs.Opens.{Openable, OpensAt, Opens}
+use Rattle.protocol.specs.Opens.{OpensAt, Opens}
 use Rattle.protocol.proofs.Basics.{and-both}
 use Rattle.protocol.proofs.Inv.{at-all}
 use Rattle.protocol.proofs.Replays.{state-opened, size-snoc}

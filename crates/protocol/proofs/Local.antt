@@ -1,24 +1,22 @@
 -- Several steps of one house: what they come to, and what they make of the network.
-use mathlib.Core.Path.{_≡_, refl, sym, _∙_, ap, ap₂, subst, subst⁻¹, fun-ext}
+use mathlib.Core.Path.{_≡_, refl, sym, _∙_, ap, ap₂, subst, subst⁻¹}
 use mathlib.Core.Logic.{_⊎_, inl, inr}
-use mathlib.Core.Bool.{Bool, true, false, cond, _&&_, _||_, not}
-use mathlib.Core.List.{List, [], _∷_, _++_, List·Memᴰ, List·Memᴰ·head, List·Memᴰ·tail, List·Memᴰ·cases-cons, List·Memᴰ·append-cases, Memᴰ·append-left, Memᴰ·append-right, append-nil, append-assoc}
-use mathlib.Core.Option.{Option, none, some}
-use Prim.Native.Nat.{ℕ, zero, suc, _+_, _≤_, _<_}
+use mathlib.Core.Bool.{Bool, true, false, cond, _&&_, not}
+use mathlib.Core.List.{List, [], _∷_, _++_, List·Memᴰ, List·Memᴰ·cases-cons, List·Memᴰ·append-cases, Memᴰ·append-left, Memᴰ·append-right, append-nil, append-assoc}
+use Prim.Native.Nat.{ℕ, _+_}
 use native.Mathlib.Omega.{arith}
-use lib.Dec.{T, T-not, not-T, eqb, eqb→eq, eqb-refl, ltb, ltb→lt, lt→ltb, leb}
-use lib.ListN.{length, take}
-use Rattle.protocol.specs.declared.Name.{Name}
-use Rattle.protocol.specs.Model.{Model, sameName}
+use lib.Dec.{T, eqb, eqb→eq, eqb-refl}
+use lib.ListN.{length}
+use Rattle.protocol.specs.Model.{Model}
 use Rattle.protocol.specs.Laws.{Laws}
-use Rattle.protocol.specs.House.{Rec, Began, Held, Done, Dropped, Ruled, isIn, holding, ruled}
-use Rattle.protocol.specs.Net.{Asking, House, Msg, Hold, Yes, Told, Net, at}
-use Rattle.protocol.specs.State.{State, stateOf}
-use Rattle.protocol.specs.Plan.{Input, doSubmit, doHold, doVote, doRule, doGiveUp, doAnswer, doLearn, doSync, Verdict, refused, does, unless, Output, Work, speak, askOf, isHeldBack, keeping, plan, planRuleOf, planGiveUpOf, planNewHold, added, worked}
-use Rattle.protocol.specs.Run.{Command, deliver, stopAt, Answer, afterwards, act, sameMsg, sameBool, wasSent, arrived, inputOk, houseOk, lift, delivered, step, run}
-use Rattle.protocol.specs.Crash.{combine, combineWith, batch, AllTaken}
-use Rattle.protocol.proofs.Basics.{byBool, is-true, is-false, and-both, or-l, or-r, or-cases, same-refl}
-use Rattle.protocol.proofs.Inv.{at-all, at-here}
+use Rattle.protocol.specs.House.{Rec, Held, Done, Dropped, Ruled, holding, ruled}
+use Rattle.protocol.specs.Net.{House, Msg, Hold, Yes, Told, Net, at}
+use Rattle.protocol.specs.State.{stateOf}
+use Rattle.protocol.specs.Plan.{Input, doSubmit, doHold, doVote, doRule, doGiveUp, doAnswer, doLearn, doSync, Verdict, refused, does, Output, Work, speak, isHeldBack, keeping, plan, planRuleOf, planGiveUpOf, planNewHold, added}
+use Rattle.protocol.specs.Run.{Command, deliver, Answer, afterwards, act, sameMsg, sameBool, wasSent, arrived, inputOk, houseOk, delivered, step, run}
+use Rattle.protocol.specs.Crash.{combineWith, batch, AllTaken}
+use Rattle.protocol.proofs.Basics.{is-true, is-false, and-both, or-l, or-r, same-refl}
+use Rattle.protocol.proofs.Inv.{at-here}
 use Rattle.protocol.proofs.Runs.{by-unless, by-cond, ask-mem, sent-mem}
 
 module _ (M : Model) where

@@ -1,22 +1,21 @@
 -- A step by itself that is interrupted was not begun, or was done.
-use mathlib.Core.Path.{_≡_, refl, sym, _∙_, ap, subst, subst⁻¹}
+use mathlib.Core.Path.{_≡_, refl, sym, _∙_, ap, subst}
 use mathlib.Core.Logic.{_⊎_, inl, inr}
-use mathlib.Core.Bool.{Bool, true, false, cond}
+use mathlib.Core.Bool.{Bool, cond}
 use mathlib.Core.List.{List, [], _∷_, _++_, append-nil, append-assoc}
 use Prim.Native.Nat.{ℕ, zero, suc, _+_, _≤_, _<_}
 use native.Mathlib.Omega.{arith}
 use native.Mathlib.Decide.{decLe}
-use lib.Dec.{T}
 use lib.ListN.{length, take, length-append}
 use lib.Seq.{take-all, take-append-le}
 use Rattle.protocol.specs.Model.{Model}
 use Rattle.protocol.specs.House.{Rec}
-use Rattle.protocol.specs.Net.{House, Msg, synced, withMemory}
-use Rattle.protocol.specs.Plan.{Input, Verdict, refused, does, Work, plan, added, worked}
-use Rattle.protocol.specs.Crash.{Effect, Append, Sync, Remember, Send, Process, appends, sendings, afterAppends, effects, perform, advance, inFlight, written, advanceBy, Recoverable, OneStep}
-use Rattle.protocol.proofs.Basics.{byBool, is-true, is-false}
+use Rattle.protocol.specs.Net.{House, synced, withMemory}
+use Rattle.protocol.specs.Plan.{Verdict, does, Work, worked}
+use Rattle.protocol.specs.Crash.{Effect, Append, Sync, Remember, Send, Process, appends, sendings, afterAppends, effects, advance, written, advanceBy, Recoverable, OneStep}
+use Rattle.protocol.proofs.Basics.{byBool}
 use Rattle.protocol.proofs.Local.{added-is, Few, few}
-use Rattle.protocol.proofs.Covered.{Soft, wrote, inFlight-before, inFlight-soft, soft-sendings}
+use Rattle.protocol.proofs.Matching.{Soft, wrote, inFlight-before, inFlight-soft, soft-sendings}
 
 module _ (M : Model) (h : House M) (w : Work M) where
   data Stage : Process M → Type 0 where

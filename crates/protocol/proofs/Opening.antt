@@ -1,24 +1,23 @@
 -- Every file of a reachable network opens.
-use mathlib.Core.Path.{_≡_, refl, sym, _∙_, ap, subst, subst⁻¹}
-use mathlib.Core.Logic.{_⊎_, inl, inr}
-use mathlib.Core.Bool.{Bool, true, false, cond, _&&_, _||_, not}
+use mathlib.Core.Path.{subst, subst⁻¹}
+use mathlib.Core.Bool.{Bool, true, false, cond}
 use mathlib.Core.List.{List, [], _∷_, _++_, List·Memᴰ}
-use Prim.Native.Nat.{ℕ, zero, suc, _+_, _≤_, _<_}
+use Prim.Native.Nat.{ℕ, zero, suc, _+_, _<_}
 use native.Mathlib.Omega.{arith}
-use lib.Dec.{T, T-not, not-T, eqb, eqb-refl, ltb, lt→ltb, ltb→lt, leb, le→leb}
-use lib.ListN.{length, take}
+use lib.Dec.{T, not-T, eqb, eqb-refl, ltb, lt→ltb}
+use lib.ListN.{take}
 use Rattle.protocol.specs.declared.Name.{Name}
-use Rattle.protocol.specs.Model.{Model, sameName, admits, mostHeld, mostStarts, mostBytes, housesOk}
+use Rattle.protocol.specs.Model.{Model}
 use Rattle.protocol.specs.Laws.{Laws}
-use Rattle.protocol.specs.House.{Rec, Began, Held, Done, Dropped, Ruled, starts, holding, stock, everHeld, ruled, isIn, mayHold}
-use Rattle.protocol.specs.Net.{Asking, House, Msg, Net, start, begun, at, wrote, restarted, Step, submit, hold, vote, rule, giveUp, answer, learn, sync, stop, yesAgain, again, Reach, begin, then}
-use Rattle.protocol.specs.State.{State, stateOf, emptyState, apply, replay, recSize, fileSize, lawful, withinLimits, allLawful, allWithin, opens}
-use Rattle.protocol.specs.Opens.{LawfulAt, Openable, OpensAt, Opens}
-use Rattle.protocol.proofs.Basics.{byBool, is-true, is-false, and-l, and-r, and-both}
-use Rattle.protocol.proofs.Inv.{Inv, AskOk, RecOk, at-all}
+use Rattle.protocol.specs.House.{Rec, Began, Held, Done, Dropped, Ruled, starts, holding, ruled, isIn, mayHold}
+use Rattle.protocol.specs.Net.{Asking, House, Net, at, Step, submit, hold, vote, rule, giveUp, answer, learn, sync, stop, yesAgain, again, Reach, begin, then}
+use Rattle.protocol.specs.State.{State, stateOf, emptyState, apply, replay, lawful, withinLimits, allLawful, allWithin}
+use Rattle.protocol.specs.Opens.{LawfulAt}
+use Rattle.protocol.proofs.Basics.{and-l, and-r, and-both}
+use Rattle.protocol.proofs.Inv.{Inv, at-all}
 use Rattle.protocol.proofs.Held.{starts-snoc, in-of-mem, mem-of-ruled}
 use Rattle.protocol.proofs.Reached.{reach-keeps}
-use Rattle.protocol.proofs.Replays.{state-opened, state-snoc}
+use Rattle.protocol.proofs.Replays.{state-opened}
 
 -- a test of each record against the state before it
 module _ (M : Model) (i : ℕ) where

@@ -1,24 +1,24 @@
 -- Every reachable network keeps to the invariant, and what follows from it.
-use mathlib.Core.Path.{_≡_, refl, sym, _∙_, ap, subst, subst⁻¹, fun-ext}
+use mathlib.Core.Path.{_≡_, refl, sym, subst, subst⁻¹}
 use mathlib.Core.Logic.{_⊎_, inl, inr}
-use mathlib.Core.Bool.{Bool, true, false, cond, _&&_, not}
-use mathlib.Core.List.{List, [], _∷_, _++_, List·Memᴰ, List·Memᴰ·head, List·Memᴰ·tail, List·Memᴰ·cases-cons}
-use Prim.Native.Nat.{ℕ, zero, suc, _+_, _≤_, _<_}
+use mathlib.Core.Bool.{Bool, true, false, cond}
+use mathlib.Core.List.{List, [], _∷_, List·Memᴰ}
+use Prim.Native.Nat.{ℕ, _<_}
 use native.Mathlib.Omega.{arith}
-use lib.Dec.{T, T-not}
-use lib.ListN.{length, take}
+use lib.Dec.{T}
+use lib.ListN.{take}
 use Rattle.protocol.specs.declared.Name.{Name}
 use Rattle.protocol.specs.Model.{Model, sameName, playedAll, SerialAll}
 use Rattle.protocol.specs.Laws.{Laws}
 use mathlib.Core.List.{List·Memᴰ·eq-of-singleton}
-use Rattle.protocol.specs.House.{Rec, Began, Held, Done, Dropped, Ruled, starts, holding, stockFrom, stock, isIn, ruled}
-use Rattle.protocol.specs.Net.{Asking, House, Msg, Hold, Yes, Told, Net, at, begun, start, asked, CanSay, sayDone, sayOld, sayOver, Step, submit, hold, vote, rule, giveUp, answer, learn, sync, stop, yesAgain, again, Reach, begin, then}
+use Rattle.protocol.specs.House.{Rec, Began, Held, Done, Dropped, Ruled, holding, stockFrom, stock, ruled}
+use Rattle.protocol.specs.Net.{Asking, Hold, Told, Net, begun, start, asked, CanSay, sayDone, sayOld, sayOver, Step, submit, hold, vote, rule, giveUp, answer, learn, sync, stop, yesAgain, again, Reach, begin, then}
 use Rattle.protocol.proofs.Basics.{decide, same-eq, eq-same, same-refl, snoc-old}
 use Rattle.protocol.proofs.Held.{Distinct, held-of-holding, fate, mem-of-in, in-of-mem}
 use Rattle.protocol.specs.Sound.{settle, Whole, Sound}
-use Rattle.protocol.proofs.Asks.{about, OnceAsked, mem-of-asked}
-use Rattle.protocol.proofs.Inv.{Inv, Good, RecOk, Kept, kept-full, kept-all, at-all, Hard, hard-at}
-use Rattle.protocol.proofs.StepsAsk.{submit-keeps, vote-keeps, giveUp-keeps, answer-keeps, known-past}
+use Rattle.protocol.proofs.Asks.{OnceAsked, mem-of-asked}
+use Rattle.protocol.proofs.Inv.{Inv, Good, RecOk, kept-all, Hard, hard-at}
+use Rattle.protocol.proofs.StepsAsk.{submit-keeps, vote-keeps, giveUp-keeps, answer-keeps}
 use Rattle.protocol.proofs.StepsFile.{hold-keeps, learn-keeps, sync-keeps, stop-keeps, full, yes-keeps, resend-keeps}
 use Rattle.protocol.proofs.StepRule.{rule-keeps}
 

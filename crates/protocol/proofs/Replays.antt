@@ -1,13 +1,13 @@
 -- A house's state is the replay of its file, record by record.
-use mathlib.Core.Path.{_≡_, refl, sym, _∙_, ap, fun-ext}
+use mathlib.Core.Path.{_≡_, refl, sym, _∙_, ap}
 use mathlib.Core.Bool.{Bool, true, false, _||_}
 use mathlib.Core.List.{List, [], _∷_, _++_, append-nil, append-assoc}
-use Prim.Native.Nat.{ℕ, zero, suc, _+_}
+use Prim.Native.Nat.{ℕ, _+_}
 use native.Mathlib.Omega.{arith}
 use Rattle.protocol.specs.declared.Name.{Name}
 use Rattle.protocol.specs.Model.{Model}
-use Rattle.protocol.specs.House.{Rec, Began, Held, Done, Dropped, Ruled, countBegan, starts, holding, stockFrom, stock, isHeld, isRuled, everHeld, ruled}
-use Rattle.protocol.specs.State.{State, stateOf, emptyState, apply, replay, recSize, fileSize, ReplaysAt, Replays}
+use Rattle.protocol.specs.House.{Rec, Began, Held, Done, Dropped, Ruled, countBegan, starts, holding, stockFrom, isHeld, isRuled, everHeld, ruled}
+use Rattle.protocol.specs.State.{State, stateOf, emptyState, apply, replay, recSize, fileSize, Replays}
 use Rattle.protocol.proofs.Held.{starts-snoc, holding-snoc, stock-snoc}
 
 or-assoc : (a b c : Bool) → a || (b || c) ≡ (a || b) || c

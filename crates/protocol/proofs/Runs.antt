@@ -1,22 +1,21 @@
 -- Each step as a function is a step of the relation.
-use mathlib.Core.Path.{_≡_, refl, sym, _∙_, ap, ap₂, subst, subst⁻¹, fun-ext}
-use mathlib.Core.Logic.{_⊎_, inl, inr}
+use mathlib.Core.Path.{_≡_, refl, sym, ap, ap₂, subst, subst⁻¹}
+use mathlib.Core.Logic.{inl, inr}
 use mathlib.Core.Bool.{Bool, true, false, cond, _&&_, _||_, not}
-use mathlib.Core.List.{List, [], _∷_, _++_, List·Memᴰ, List·Memᴰ·head, List·Memᴰ·tail, List·Memᴰ·cases-cons}
+use mathlib.Core.List.{List, [], _∷_, List·Memᴰ, List·Memᴰ·head, List·Memᴰ·tail, List·Memᴰ·cases-cons}
 use mathlib.Core.Option.{Option, none, some}
-use Prim.Native.Nat.{ℕ, zero, suc, _+_, _≤_, _<_}
+use Prim.Native.Nat.{ℕ, _<_}
 use native.Mathlib.Omega.{arith}
-use lib.Dec.{T, T-not, not-T, eqb, eqb→eq, eqb-refl, ltb, ltb→lt, leb}
-use lib.ListN.{length, take}
+use lib.Dec.{T, T-not, not-T, eqb, eqb→eq, ltb, ltb→lt}
 use Rattle.protocol.specs.declared.Name.{Name}
-use Rattle.protocol.specs.Model.{Model, sameName, admits, housesOk}
+use Rattle.protocol.specs.Model.{Model, sameName, housesOk}
 use Rattle.protocol.specs.Laws.{Laws}
-use Rattle.protocol.specs.House.{Rec, Began, Held, Done, Dropped, Ruled, starts, holding, stock, everHeld, ruled, isIn, mayHold}
-use Rattle.protocol.specs.Net.{Asking, Memory, House, Msg, Hold, Yes, Told, Net, start, at, voted, dropAsk, asked, restarted, AllYes, CanSay, sayDone, sayOld, sayOver, Step, submit, hold, vote, rule, giveUp, answer, learn, sync, stop, yesAgain, again, Reach, begin, then}
+use Rattle.protocol.specs.House.{starts, holding, stock, everHeld, ruled, isIn}
+use Rattle.protocol.specs.Net.{Asking, House, Msg, Hold, Yes, Told, Net, start, at, asked, sayDone, sayOld, sayOver, Step, submit, hold, vote, rule, giveUp, answer, learn, sync, stop, yesAgain, Reach, begin, then}
 use Rattle.protocol.specs.State.{State, stateOf, fileSize}
-use Rattle.protocol.specs.Plan.{Input, doSubmit, doHold, doVote, doRule, doGiveUp, doAnswer, doLearn, doSync, Verdict, refused, does, Causes, unless, Output, Work, speak, askOf, allSaid, allYes, isHeldBack, keeping, plan, planNewHold, planHold, planAnswer, planRuleOf, planGiveUpOf, planLearn, added, worked, unsynced, restart}
-use Rattle.protocol.specs.Run.{Command, deliver, stopAt, Answer, sameMsg, sameBool, wasSent, arrived, inputOk, houseOk, rulings, lift, delivered, cameUp, step, run, Moved, Faithful}
-use Rattle.protocol.proofs.Basics.{decide, byBool, is-true, is-false, and-l, and-r, and-both, or-l, or-r, or-cases, same-eq, same-refl}
+use Rattle.protocol.specs.Plan.{Input, doSubmit, doHold, doVote, doRule, doGiveUp, doAnswer, doLearn, doSync, Verdict, refused, does, Causes, unless, Output, Work, speak, askOf, allSaid, allYes, isHeldBack, keeping, plan, planNewHold, planRuleOf, planGiveUpOf, added, unsynced, restart}
+use Rattle.protocol.specs.Run.{Command, deliver, stopAt, Answer, sameMsg, sameBool, wasSent, arrived, inputOk, houseOk, rulings, delivered, cameUp, step, run, Moved, Faithful}
+use Rattle.protocol.proofs.Basics.{byBool, is-true, is-false, and-l, and-r, and-both, or-l, or-r, or-cases, same-eq, same-refl}
 use Rattle.protocol.proofs.Inv.{at-self}
 
 -- no cause holds

@@ -1,24 +1,23 @@
 -- The ruling.
-use mathlib.Core.Path.{_≡_, refl, sym, _∙_, ap, subst, subst⁻¹, fun-ext}
-use mathlib.Core.Logic.{_⊎_, inl, inr}
-use mathlib.Core.Bool.{Bool, true, false, cond, _&&_, not}
-use mathlib.Core.List.{List, [], _∷_, _++_, List·Memᴰ, List·Memᴰ·head, List·Memᴰ·tail, List·Memᴰ·cases-cons}
-use Prim.Native.Nat.{ℕ, zero, suc, _+_, _≤_, _<_}
+use mathlib.Core.Path.{_≡_, refl, sym, _∙_, ap, subst, subst⁻¹}
+use mathlib.Core.Logic.{inl, inr}
+use mathlib.Core.Bool.{Bool, true, false}
+use mathlib.Core.List.{List, [], _∷_, _++_, List·Memᴰ}
+use Prim.Native.Nat.{ℕ, _+_}
 use native.Mathlib.Omega.{arith}
-use lib.Dec.{T, T-not}
-use lib.ListN.{length, take}
+use lib.Dec.{T}
 use Rattle.protocol.specs.declared.Name.{Name}
-use Rattle.protocol.specs.Model.{Model, sameName, playedAll, SerialAll}
+use Rattle.protocol.specs.Model.{Model, playedAll}
 use Rattle.protocol.specs.Laws.{Laws}
 use Rattle.protocol.specs.Model.{Sees}
-use Rattle.protocol.specs.House.{Rec, Began, Held, Done, Dropped, Ruled, starts, holdNext, holding, stockNext, stock, isIn}
+use Rattle.protocol.specs.House.{Rec, Began, Held, Done, Dropped, Ruled, starts, holding, stock, isIn}
 use Rattle.protocol.specs.Net.{Asking, House, Msg, Hold, Yes, Told, Net, at, wrote, withAsking, dropAsk, AllYes}
 use Rattle.protocol.specs.Sound.{settle}
 use Rattle.protocol.proofs.Basics.{decide, snoc-last, snoc-old, snoc-cases}
-use Rattle.protocol.proofs.Held.{Distinct, in-of-mem, mem-of-in, starts-snoc, held-of-holding, fate}
+use Rattle.protocol.proofs.Held.{in-of-mem, mem-of-in, starts-snoc, held-of-holding, fate}
 use Rattle.protocol.proofs.Settle.{settle-rule, settle-snoc, played-snoc, serial-snoc, in-snoc-old, in-snoc-cases}
 use Rattle.protocol.proofs.Asks.{about, OnceAsked, drop-mem, once-drop}
-use Rattle.protocol.proofs.Inv.{KnownName, Inv, Past, Once, MsgOk, ToldOk, RecOk, AskOk, DoneOk, Good, Hard, Kept, kept-full, kept-all, length-snoc, at-here, at-all, msg-houses, past-at, hard-at}
+use Rattle.protocol.proofs.Inv.{KnownName, Inv, Past, MsgOk, ToldOk, RecOk, AskOk, DoneOk, Good, Hard, Kept, kept-all, length-snoc, at-here, at-all, msg-houses, past-at, hard-at}
 use Rattle.protocol.proofs.StepsAsk.{told-keeps}
 use Rattle.protocol.proofs.StepsFile.{past-same, good-snoc, full}
 

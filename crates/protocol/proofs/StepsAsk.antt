@@ -1,21 +1,20 @@
 -- Steps of a home that asks.
-use mathlib.Core.Path.{_≡_, refl, sym, _∙_, ap, subst, subst⁻¹, fun-ext}
-use mathlib.Core.Logic.{_⊎_, inl, inr}
-use mathlib.Core.Bool.{Bool, true, false, cond, _&&_, _||_, not}
-use mathlib.Core.List.{List, [], _∷_, _++_, List·Memᴰ, List·Memᴰ·head, List·Memᴰ·tail, List·Memᴰ·cases-cons}
-use Prim.Native.Nat.{ℕ, zero, suc, _+_, _≤_, _<_}
+use mathlib.Core.Path.{_≡_, refl, sym, _∙_, ap, subst, subst⁻¹}
+use mathlib.Core.Logic.{inl, inr}
+use mathlib.Core.Bool.{Bool, true, false, _||_}
+use mathlib.Core.List.{[], _∷_, _++_, List·Memᴰ, List·Memᴰ·head, List·Memᴰ·tail, List·Memᴰ·cases-cons}
+use Prim.Native.Nat.{ℕ, _+_, _<_}
 use native.Mathlib.Omega.{arith}
-use lib.Dec.{T, T-not}
-use lib.ListN.{length, take}
+use lib.Dec.{T}
 use Rattle.protocol.specs.declared.Name.{Name}
-use Rattle.protocol.specs.Model.{Model, sameName, playedAll, SerialAll}
+use Rattle.protocol.specs.Model.{Model, sameName}
 use Rattle.protocol.specs.Laws.{Laws}
-use Rattle.protocol.specs.House.{Rec, Began, Held, Done, Dropped, Ruled, starts, holding, stock, isIn, ruled}
-use Rattle.protocol.specs.Net.{Asking, House, Msg, Hold, Yes, Told, Net, at, nobody, wrote, withMemory, withAsking, voted, dropAsk, asked, CanSay, sayDone, sayOld, sayOver}
+use Rattle.protocol.specs.House.{Ruled, starts, isIn, ruled}
+use Rattle.protocol.specs.Net.{Asking, House, Msg, Hold, Yes, Told, Net, at, nobody, withMemory, withAsking, voted, dropAsk, CanSay, sayDone, sayOld, sayOver}
 use Rattle.protocol.proofs.Basics.{or-l, or-r, or-cases, same-eq, same-refl, snoc-cases}
-use Rattle.protocol.proofs.Held.{in-of-mem, mem-of-in, in-head, in-tail, mem-of-ruled, ruled-of-mem}
+use Rattle.protocol.proofs.Held.{in-of-mem, mem-of-in, mem-of-ruled, ruled-of-mem}
 use Rattle.protocol.proofs.Asks.{about, OnceAsked, mem-of-asked, asked-of-mem, drop-mem, once-drop, voted-mem, once-voted, once-snoc}
-use Rattle.protocol.proofs.Inv.{Inv, Change, change, Past, Once, MsgOk, ToldOk, AskOk, Kept, at-here, at-self, new-hold, new-no, ask-more, rec-more, past-at, known-more}
+use Rattle.protocol.proofs.Inv.{Inv, change, Past, Once, MsgOk, ToldOk, AskOk, at-here, at-self, new-hold, new-no, ask-more, rec-more, past-at, known-more}
 
 module _ (M : Model) (L : Laws M) (n : ℕ) (s : Net M) (v : Inv M L n s) where
   -- one of a name that was given away, and that is known, was given away by its home

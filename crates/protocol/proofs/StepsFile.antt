@@ -1,23 +1,23 @@
 -- Steps that change a house's file.
-use mathlib.Core.Path.{_≡_, refl, sym, _∙_, ap, subst, subst⁻¹, fun-ext}
-use mathlib.Core.Logic.{_⊎_, inl, inr}
+use mathlib.Core.Path.{_≡_, refl, sym, _∙_, ap, subst, subst⁻¹}
+use mathlib.Core.Logic.{inl, inr}
 use mathlib.Core.Bool.{Bool, true, false, cond, _&&_, not}
-use mathlib.Core.List.{List, [], _∷_, _++_, List·Memᴰ, List·Memᴰ·head, List·Memᴰ·tail, List·Memᴰ·cases-cons}
-use Prim.Native.Nat.{ℕ, zero, suc, _+_, _≤_, _<_}
+use mathlib.Core.List.{List, [], _∷_, _++_, List·Memᴰ, List·Memᴰ·tail, List·Memᴰ·cases-cons}
+use Prim.Native.Nat.{ℕ, _+_, _≤_}
 use native.Mathlib.Omega.{arith}
 use lib.Dec.{T, T-not}
-use lib.ListN.{length, take}
+use lib.ListN.{take}
 use Rattle.protocol.specs.declared.Name.{Name}
-use Rattle.protocol.specs.Model.{Model, sameName, playedAll, SerialAll, admits}
+use Rattle.protocol.specs.Model.{Model, playedAll, admits}
 use Rattle.protocol.specs.Laws.{Laws}
-use Rattle.protocol.specs.House.{Rec, Began, Held, Done, Dropped, Ruled, countBegan, starts, holdNext, holding, doneOf, stockNext, stock, isIn, everHeld, mayHold, without}
+use Rattle.protocol.specs.House.{Rec, Began, Held, Done, Dropped, starts, holdNext, holding, doneOf, stockNext, stock, isIn, everHeld, mayHold, without}
 use Rattle.protocol.specs.Net.{Asking, House, Msg, Hold, Yes, Told, Net, at, wrote, synced, restarted}
 use Rattle.protocol.specs.Sound.{settle}
-use Rattle.protocol.proofs.Basics.{and-l, and-r, snoc-last, snoc-old, snoc-cases, take-mem}
-use Rattle.protocol.proofs.Held.{distinct-snoc, Distinct, in-of-mem, mem-of-in, starts-snoc, holding-snoc, stock-snoc, ever-of-mem, ever-of-in, held-of-holding, distinct-without}
-use Rattle.protocol.proofs.Settle.{settle-more, settle-skip, settle-finish, settle-leave, done-one}
+use Rattle.protocol.proofs.Basics.{and-l, and-r, snoc-last, snoc-old, snoc-cases}
+use Rattle.protocol.proofs.Held.{distinct-snoc, Distinct, mem-of-in, starts-snoc, holding-snoc, stock-snoc, ever-of-mem, ever-of-in, held-of-holding, distinct-without}
+use Rattle.protocol.proofs.Settle.{settle-more, settle-finish, settle-leave, done-one}
 use Rattle.protocol.proofs.Asks.{about, OnceAsked}
-use Rattle.protocol.proofs.Inv.{Inv, Change, change, Past, Once, MsgOk, ToldOk, RecOk, AskOk, Good, Hard, Kept, kept-full, kept-all, kept-wrote, kept-added, length-snoc, at-here, at-self, new-hold, new-no, ask-more, rec-more, past-at, known-more}
+use Rattle.protocol.proofs.Inv.{Inv, change, Past, MsgOk, RecOk, AskOk, Good, Hard, kept-full, kept-all, kept-wrote, kept-added, length-snoc, at-here, new-hold, new-no, ask-more, rec-more, known-more}
 
 module _ (M : Model) where
   pub past-same : (h h′ : House M) (d : Name) → starts M (h′ .file) ≡ starts M (h .file) → h′ .memory .tried ≡ h .memory .tried → Past h d → Past h′ d

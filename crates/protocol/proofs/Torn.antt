@@ -1,8 +1,7 @@
 -- What a machine reads after a stop is some first part of the records, at least all that were synced.
-use mathlib.Core.Path.{_≡_, refl, sym, _∙_, ap, subst, subst⁻¹}
-use mathlib.Core.Bool.{Bool, true, false, cond}
+use mathlib.Core.Path.{_≡_, refl, sym, _∙_, ap}
 use mathlib.Core.List.{List, [], _∷_, _++_}
-use mathlib.Core.Option.{Option, none, some}
+use mathlib.Core.Option.{Option, none}
 use Prim.Native.Nat.{ℕ, zero, suc, _+_, _-_, _≤_, _<_}
 use native.Mathlib.Omega.{arith}
 use native.Mathlib.Decide.{decLe}
@@ -11,7 +10,6 @@ use lib.ListN.{length, take, length-append}
 use lib.Seq.{take-nil, take-append-le, take-append-add}
 use Rattle.protocol.specs.Model.{Model}
 use Rattle.protocol.specs.House.{Rec, Began}
-use Rattle.protocol.specs.State.{recSize}
 use Rattle.protocol.specs.Crash.{Codec, AllFit, bytes, readOne, readBack}
 
 module _ (M : Model) (C : Codec M) where

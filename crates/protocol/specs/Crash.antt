@@ -2,7 +2,7 @@
 -- Assumes nothing.
 use mathlib.Core.Path.{_≡_}
 use mathlib.Core.Logic.{_⊎_}
-use mathlib.Core.Bool.{Bool, true, false, cond, _&&_, _||_, not}
+use mathlib.Core.Bool.{Bool, cond, _&&_, _||_, not}
 use mathlib.Core.List.{List, [], _∷_, _++_, List·Memᴰ}
 use mathlib.Core.Option.{Option, none, some}
 use Prim.Native.Nat.{ℕ, zero, suc, _+_, _≤_, _<_}
@@ -14,8 +14,8 @@ use Rattle.protocol.specs.Laws.{Laws}
 use Rattle.protocol.specs.House.{Rec, Began, Held, Done, Dropped, Ruled, starts}
 use Rattle.protocol.specs.Net.{Memory, House, Msg, Net, start, begun, noMemory, synced, withMemory}
 use Rattle.protocol.specs.State.{recSize, fileSize}
-use Rattle.protocol.specs.Plan.{Input, Verdict, refused, does, Output, Work, speak, plan, worked, noRoom}
-use Rattle.protocol.specs.Run.{Command, act, arrived, houseOk, inputOk, run}
+use Rattle.protocol.specs.Plan.{Input, Verdict, refused, does, Work, speak, plan, worked, noRoom}
+use Rattle.protocol.specs.Run.{Command, act, arrived, inputOk, run}
 
 -- records as bytes: put writes one whose numbers fit, get reads the first of some bytes; a record that is cut short isn't read
 pub record Codec (M : Model) : Type 0 where

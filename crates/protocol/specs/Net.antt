@@ -1,10 +1,10 @@
 -- Houses over a network that loses, repeats and reorders, each of which may stop at any moment.
 -- Assumes nothing.
 use mathlib.Core.Path.{_≡_}
-use mathlib.Core.Bool.{Bool, true, false, cond, _&&_, _||_, not}
+use mathlib.Core.Bool.{Bool, true, false, cond, _||_}
 use mathlib.Core.List.{List, [], _∷_, _++_, List·Memᴰ}
-use Prim.Native.Nat.{ℕ, zero, suc, _+_, _<_, _≤_}
-use lib.Dec.{eqb, ltb, leb, T}
+use Prim.Native.Nat.{ℕ, _+_, _<_, _≤_}
+use lib.Dec.{eqb, T}
 use lib.ListN.{length, take}
 use Rattle.protocol.specs.declared.Name.{Name}
 use Rattle.protocol.specs.Model.{Model, sameName}

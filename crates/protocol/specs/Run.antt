@@ -4,13 +4,12 @@ use mathlib.Core.Path.{_≡_}
 use mathlib.Core.Bool.{Bool, true, false, cond, _&&_, _||_, not}
 use mathlib.Core.List.{List, [], _∷_, _++_}
 use Prim.Native.Nat.{ℕ}
-use lib.Dec.{eqb, ltb, T}
-use Rattle.protocol.specs.declared.Name.{Name}
+use lib.Dec.{eqb, ltb}
 use Rattle.protocol.specs.Model.{Model, sameName, housesOk, nameOk}
 use Rattle.protocol.specs.House.{Rec, Began, Held, Done, Dropped, Ruled}
 use Rattle.protocol.specs.Net.{House, Msg, Hold, Yes, Told, Net, at, Step}
 use Rattle.protocol.specs.Laws.{Laws}
-use Rattle.protocol.specs.State.{fileSize, opens}
+use Rattle.protocol.specs.State.{fileSize}
 use Rattle.protocol.specs.Plan.{Input, doSubmit, doHold, doVote, doRule, doGiveUp, doAnswer, doLearn, doSync, Verdict, refused, does, Work, plan, worked, unsynced, restart}
 
 -- a command to the network: something comes to a house, or the house stops, and of the bytes that it wrote since its last sync so many are still there

@@ -1,7 +1,7 @@
 -- The promise of the network, for any model of orders that keeps the laws.
 -- Assumes nothing.
 use mathlib.Core.Path.{_≡_}
-use mathlib.Core.Bool.{Bool, true, false, cond}
+use mathlib.Core.Bool.{cond}
 use mathlib.Core.List.{List, [], _∷_}
 use Prim.Native.Nat.{ℕ}
 use Rattle.protocol.specs.Model.{Model, playedAll, SerialAll}

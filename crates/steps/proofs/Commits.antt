@@ -1,8 +1,8 @@
 -- A record written into a buffer and appended, and what backs a message once it is synced.
-use mathlib.Core.Path.{_≡_, refl, sym, ap, subst, subst⁻¹, _∙_}
+use mathlib.Core.Path.{_≡_, sym, ap, subst, subst⁻¹, _∙_}
 use mathlib.Core.Bool.{Bool, true, false, cond}
-use mathlib.Core.List.{List, [], _∷_, _++_, append-nil}
-use Prim.Native.Nat.{ℕ, _+_, _-_, _≤_}
+use mathlib.Core.List.{List, _++_, append-nil}
+use Prim.Native.Nat.{ℕ, _+_, _-_}
 use native.Mathlib.Omega.{arith}
 use lib.Dec.{leb}
 use lib.ListN.{length, take, drop}
@@ -13,8 +13,7 @@ use Rattle.orders.specs.declared.Refusal.{Refusal}
 use Rattle.orders.specs.declared.Refusal.the-variants.{FileFull}
 use Rattle.orders.specs.Order.{Msg}
 use Rattle.orders.specs.Room.{sizeIn, overIn, over}
-use Rattle.steps.specs.declared.broken.Broken.{Broken}
-use Rattle.steps.specs.Hosts.{World, Backed, appended, synced, Appends}
+use Rattle.steps.specs.Hosts.{World, Backed, appended, synced}
 
 take-front : (xs ys : List ℕ) (n : ℕ) → n ≡ length xs → take (n - 0) (xs ++ ys) ≡ xs
 take-front xs ys n e = ap (λ (k : ℕ). take k (xs ++ ys)) (let z : n - 0 ≡ length xs + 0 = omega (arith, e) in z) ∙ take-append-add xs ys 0 ∙ append-nil xs

@@ -1,28 +1,28 @@
 -- How steps leave the host and the tie between the live state and the file, over plain variables.
 use mathlib.Core.Path.{_≡_, refl, sym, ap, subst, subst⁻¹, _∙_}
-use mathlib.Core.Bool.{Bool, true, false, cond, _&&_, _||_}
+use mathlib.Core.Bool.{Bool, true, false, _&&_, _||_}
 use mathlib.Core.List.{List, [], _∷_, _++_, append-nil, append-assoc}
-use Prim.Native.Nat.{ℕ, _+_, _≤_}
+use Prim.Native.Nat.{ℕ, _+_}
 use native.Mathlib.Omega.{arith}
 use lib.Dec.{T}
 use lib.ListN.{length, take, length-append}
 use lib.Seq.{take-all, take-append-le}
-use Rattle.std.specs.declared.result.Result.the-variants.{Ok, Err}
+use Rattle.std.specs.declared.result.Result.the-variants.{Ok}
 use Rattle.protocol.specs.declared.Name.{Name}
 use Rattle.protocol.specs.Model.{sameName}
 use Rattle.protocol.specs.House.{Held, Ruled, everHeld, ruled, isIn, isHeld, isRuled}
 use Rattle.protocol.specs.Net.{Yes, Told}
 use Rattle.protocol.specs.State.{State, stateOf, apply, replay}
-use Rattle.protocol.specs.Plan.{Verdict, refused, does, Output, speak, isHeldBack}
+use Rattle.protocol.specs.Plan.{Verdict, does, Output, speak, isHeldBack}
 use Rattle.protocol.proofs.Basics.{is-true, and-l, or-cases, or-l, or-r, snoc-last}
 use Rattle.protocol.proofs.Held.{ever-of-in, ever-of-mem, ruled-of-mem}
 use Rattle.protocol.proofs.Replays.{state-snoc, ever-snoc, ruled-snoc}
-use mathlib.Core.Logic.{_⊎_, inl, inr}
+use mathlib.Core.Logic.{inl, inr}
 use Rattle.orders.specs.Order.{Order, Rec, Msg, sameOrder, sameEntries, entryModel}
 use Rattle.orders.specs.Encode.{recBytes}
 use Rattle.orders.specs.File.{allBytes}
 use Rattle.steps.specs.Hosts.{World, Backed, onDisk, spoken, performed}
-use Rattle.steps.specs.Stepped.{Stepped, outputOf, isDone}
+use Rattle.steps.specs.Stepped.{Stepped}
 use Rattle.steps.specs.Ties.{Tied}
 
 of-true : (b : Bool) → b ≡ true → T b

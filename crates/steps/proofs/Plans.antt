@@ -4,7 +4,7 @@ use mathlib.Core.Bool.{Bool, true, false, cond, _&&_, _||_, not}
 use mathlib.Core.List.{List, [], _∷_, _++_, append-nil}
 use Prim.Native.Nat.{ℕ, _+_, _≤_, _<_}
 use native.Mathlib.Omega.{arith}
-use lib.Dec.{eqb, ltb, ltb→lt, lt→ltb, T}
+use lib.Dec.{eqb, ltb, ltb→lt, lt→ltb}
 use lib.ListN.{length, take}
 use lib.Seq.{take-all}
 use Rattle.std.specs.declared.result.Result.{Result}
@@ -13,13 +13,12 @@ use Rattle.protocol.specs.declared.Name.{Name}
 use Rattle.protocol.specs.Model.{mostBytes}
 use Rattle.protocol.specs.House.{Held, Done, Dropped, Ruled, isHeld, isRuled, everHeld, ruled}
 use Rattle.protocol.specs.Net.{Memory, Told, asked}
-use Rattle.protocol.specs.State.{State, apply, recSize}
-use Rattle.protocol.specs.Plan.{Verdict, refused, does, unless, Output, Work, speak, noRoom, planLearn, planAnswer, planRule}
+use Rattle.protocol.specs.State.{State, recSize}
+use Rattle.protocol.specs.Plan.{Verdict, refused, does, unless, Output, Work, speak, noRoom, planAnswer}
 use Rattle.protocol.proofs.Basics.{is-true, is-false}
 use Rattle.orders.specs.Order.{Order, Rec, Msg, entryModel}
 use Rattle.orders.specs.Encode.{recBytes}
 use Rattle.orders.specs.File.{allBytes}
-use Rattle.home.specs.Rulings.{ruledWork}
 use Rattle.steps.specs.declared.broken.Broken.{Broken}
 use Rattle.steps.specs.declared.broken.Trouble.{Trouble}
 use Rattle.steps.specs.declared.broken.Trouble.the-variants.{Refused, NoMemory, Down}

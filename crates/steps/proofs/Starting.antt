@@ -1,14 +1,12 @@
 -- Coming up: from the bytes of a log to a house that is up.
-use mathlib.Core.Path.{_≡_, refl, sym, ap, subst, subst⁻¹, _∙_}
-use mathlib.Core.Logic.{_⊎_, inl, inr}
-use mathlib.Core.Bool.{true}
+use mathlib.Core.Path.{_≡_, refl, sym, ap, subst, _∙_}
+use mathlib.Core.Logic.{inl}
 use mathlib.Core.List.{List, [], _∷_, _++_, append-nil}
-use Prim.Native.Nat.{ℕ, _+_, _≤_}
+use Prim.Native.Nat.{ℕ, _+_}
 use native.Mathlib.Omega.{arith}
 use lib.ListN.{length, take, drop, length-drop, length-append}
 use lib.Seq.{take-all, take-append-add}
-use Rattle.std.specs.declared.result.Result.the-variants.{Ok, Err}
-use Rattle.protocol.specs.declared.Name.{Name}
+use Rattle.std.specs.declared.result.Result.the-variants.{Err}
 use Rattle.protocol.specs.House.{Began, everHeld, ruled}
 use Rattle.protocol.specs.State.{State, stateOf, apply}
 use Rattle.protocol.proofs.Replays.{state-snoc}
@@ -26,8 +24,7 @@ use Rattle.ledger.proofs.Once.{says-file}
 use Rattle.steps.specs.declared.broken.Trouble.{Trouble}
 use Rattle.steps.specs.declared.broken.Trouble.the-variants.{Refused, NoMemory, Down}
 use Rattle.steps.specs.Hosts.{World, appended, synced}
-use Rattle.steps.specs.Ties.{Tied}
-use Rattle.steps.specs.Start.{Holds, Up, StaysDown, OpenedLog, CameUp}
+use Rattle.steps.specs.Start.{Holds, Up, OpenedLog, CameUp}
 use Rattle.steps.proofs.Driving.{bytes-snoc}
 
 take-front : (xs ys bs : List ℕ) (k : ℕ) → bs ≡ xs ++ ys → length xs ≡ k → take k bs ≡ xs

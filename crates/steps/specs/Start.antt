@@ -4,7 +4,7 @@ use mathlib.Core.Logic.{_⊎_}
 use mathlib.Core.Bool.{true}
 use mathlib.Core.List.{List, [], _∷_, _++_}
 use Prim.Native.Nat.{ℕ, _+_, _≤_, _<_}
-use lib.ListN.{length, take, drop}
+use lib.ListN.{take, drop}
 use Rattle.std.specs.declared.result.Result.{Result}
 use Rattle.std.specs.declared.result.Result.the-variants.{Ok, Err}
 use Rattle.protocol.specs.Model.{mostStarts, mostBytes}
@@ -13,7 +13,7 @@ use Rattle.protocol.specs.State.{State, stateOf, opens}
 use Rattle.orders.specs.Order.{Rec, entryModel}
 use Rattle.orders.specs.Refusals.{numberOf}
 use Rattle.orders.specs.Parse.{cut, parse}
-use Rattle.orders.specs.File.{Reached, allBytes}
+use Rattle.orders.specs.File.{allBytes}
 use Rattle.orders.specs.declared.Refusal.{Refusal}
 use Rattle.ledger.specs.declared.Ledger.{Ledger}
 use Rattle.ledger.specs.View.{view}

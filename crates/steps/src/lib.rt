@@ -6,5 +6,5 @@ pub mod hold;
 pub mod host;
 pub mod learn;
 pub mod rule;
-pub mod sync;
 pub mod start;
+pub mod sync;

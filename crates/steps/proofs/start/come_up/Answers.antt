@@ -22,7 +22,8 @@ returns g c =
     let v = view (c .in-Ok .ledger) (c .open-log .last .shelves) in
     let u = view (c .apply .last .self) (c .apply .last .shelves) in
     let o = c .in-Ok .ensures tt in
-    let s = c .in-Ok-apply .ensures tt in
-    (s .house ∙ o .0,
-    up (c .args .houses) (c .args .house) (c .log .result .now) x a b y v u (c .bytes-len .result) (c .log .ensures) (o .1) (c .bytes-len .ensures .value) (c .in-Ok-cut .ensures tt) (c .in-Ok-append-record .ensures tt) (c .in-Ok-sync .ensures tt)
-    (s .view ∙ ap (λ (h : ℕ). apply entryModel h Began v) (o .0)))
+    let s = c .in-Ok-apply .ensures tt in (
+      s .house ∙ o .0,
+      up (c .args .houses) (c .args .house) (c .log .result .now) x a b y v u (c .bytes-len .result) (c .log .ensures) (o .1) (c .bytes-len .ensures .value) (c .in-Ok-cut .ensures tt) (c .in-Ok-append-record .ensures tt) (c .in-Ok-sync .ensures tt)
+          (s .view ∙ ap (λ (h : ℕ). apply entryModel h Began v) (o .0)),
+    )
