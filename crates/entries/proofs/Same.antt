@@ -1,6 +1,6 @@
 -- Two lists compared entry by entry, from the front.
 use mathlib.Core.Path.{_≡_, refl, sym, ap, ap₂, _∙_}
-use mathlib.Core.Bool.{Bool, true, false, _&&_}
+use mathlib.Core.Bool.{Bool, true, false, _&&_, and-false}
 use mathlib.Core.List.{List, [], _∷_}
 use Prim.Native.Nat.{ℕ, zero, suc, _+_, _<_, _≤_}
 use native.Mathlib.Omega.{arith}
@@ -10,10 +10,6 @@ use lib.Seq.{drop-cons}
 use Rattle.std.proofs.shelf.Lists.{at-drop-all}
 use Rattle.orders.specs.declared.Entry.{Entry}
 use Rattle.orders.specs.Order.{sameEntry, sameEntries}
-
-and-false : (a : Bool) → (a && false) ≡ false
-and-false true = refl
-and-false false = refl
 
 pub differ : (es fs : List Entry) → (length es ≡ length fs → ⊥) → false ≡ sameEntries es fs
 unfolding sameEntries

@@ -17,12 +17,12 @@ use Rattle.protocol.proofs.Basics.{same-eq}
 use Rattle.protocol.specs.Net.{Asking, asked, dropAsk, voted}
 use Rattle.protocol.specs.Plan.{askOf}
 use Rattle.orders.specs.Order.{anyBy, entryModel}
+use Rattle.entries.specs.First.{FirstAt, Found}
 use Rattle.entries.specs.Named.{namedOf}
+use Rattle.entries.proofs.Searches.{first-any}
 use Rattle.home.specs.declared.types.Asked.{Asked}
-use Rattle.home.specs.Memory.{askingOf}
-use Rattle.home.specs.Find.{FirstAt, Found, askedOf}
+use Rattle.home.specs.Memory.{askingOf, askedOf}
 use Rattle.home.proofs.Marks.{set-mark}
-use Rattle.home.proofs.Searches.{first-any}
 
 module _ (d : Name) where
   pub any-asked : (xs : List Asked) → anyBy (askedOf d) xs ≡ asked entryModel d (map askingOf xs)

@@ -1,6 +1,6 @@
 -- Rulings: the memory's part and the file's part make up the plan; which order is next.
 use mathlib.Core.Path.{_≡_, refl, sym, ap, _∙_, subst}
-use mathlib.Core.Bool.{Bool, true, false, cond, not, _&&_, _||_}
+use mathlib.Core.Bool.{Bool, true, false, cond, not, _&&_, _||_, and-assoc}
 use mathlib.Core.List.{List, [], _∷_, _++_, map}
 use mathlib.Core.Option.{Option, none, some}
 use mathlib.Core.Logic.{⊎-elim}
@@ -20,10 +20,10 @@ use Rattle.protocol.specs.Net.{Asking, Memory, asked}
 use Rattle.protocol.specs.Plan.{Verdict, refused, does, unless, planRule, planRuleOf, askOf, allSaid, allYes, noRoom}
 use Rattle.orders.specs.declared.Entry.{Entry}
 use Rattle.orders.specs.Order.{anyBy, housesOf, entryModel, Order}
+use Rattle.entries.specs.First.{FirstAt}
 use Rattle.entries.specs.Named.{namedOf}
 use Rattle.home.specs.declared.types.Asked.{Asked}
-use Rattle.home.specs.Memory.{askingOf}
-use Rattle.home.specs.Find.{FirstAt, askedOf}
+use Rattle.home.specs.Memory.{askingOf, askedOf}
 use Rattle.home.specs.Rulings.{rulable, ruledWork, ruledBy, accepted, mayRule, nextRulable}
 use Rattle.home.specs.Verdicts.{stopAsking}
 use Rattle.home.proofs.Asks.{none-asked, first-asked, any-asked}
@@ -63,14 +63,10 @@ module _ (d : Name) (bytes : ℕ) (m : Memory entryModel) where
       ∙ ap (λ b. unless ((15, b) ∷ []) (ruledWork t m)) (sym room)
       ∙ from (does t) e
 
-and-assoc : (a b c : Bool) → (a && (b && c)) ≡ ((a && b) && c)
-and-assoc true b c = refl
-and-assoc false b c = refl
-
 said-append : (js ks : List ℕ) (p : ℕ → Bool) → allSaid entryModel (js ++ ks) p ≡ (allSaid entryModel js p && allSaid entryModel ks p)
 unfolding allSaid
 said-append [] ks p = refl
-said-append (j ∷ js) ks p = ap (λ b. p j && b) (said-append js ks p) ∙ and-assoc (p j) (allSaid entryModel js p) (allSaid entryModel ks p)
+said-append (j ∷ js) ks p = ap (λ b. p j && b) (said-append js ks p) ∙ sym (and-assoc (p j) (allSaid entryModel js p) (allSaid entryModel ks p))
 
 -- an order's houses are those that it read and those that it writes
 pub said-both : (y : Asked) (rs ws : List Entry) (b c : Bool) → rs ≡ namedOf (y .order) .reads → ws ≡ namedOf (y .order) .writes → b ≡ allSaid entryModel (housesOf rs) (askingOf y .yes) → c ≡ allSaid entryModel (housesOf ws) (askingOf y .yes) →

@@ -1,4 +1,3 @@
 pub mod Memory
-pub mod Find
 pub mod Verdicts
 pub mod Rulings

@@ -6,6 +6,7 @@ use lib.Dec.{eqb}
 use lib.ListN.{getD}
 use Rattle.std.specs.Of.Vec.{vec-items}
 use Rattle.protocol.specs.declared.Name.{Name}
+use Rattle.protocol.specs.Model.{sameName}
 use Rattle.protocol.specs.Net.{Asking, Memory}
 use Rattle.orders.specs.declared.Entry.{Entry}
 use Rattle.orders.specs.Order.{entryModel, houseOf}
@@ -16,6 +17,10 @@ use Rattle.home.specs.declared.types.Home.{Home}
 -- an order asked about: the houses whose mark is set have said yes
 abbrev pub askingOf : Asked → Asking entryModel
 askingOf a = record { order = namedOf (a .order); yes = λ j. getD (a .yes) j false }
+
+-- the order asked about has that name
+abbrev pub askedOf : Name → Asked → Bool
+askedOf d a = sameName d (a .order .name)
 
 -- the marks of numbers as names: those of this home and this start
 abbrev pub triedOf : ℕ → ℕ → List Bool → Name → Bool

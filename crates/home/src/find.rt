@@ -1,5 +1,6 @@
 // The place of an order among those asked about.
-ghost use Rattle.home.specs.Find.{Found, askedOf};
+ghost use Rattle.entries.specs.First.{Found};
+ghost use Rattle.home.specs.Memory.{askedOf};
 use crate::types::Asked;
 use entries::order::same_name;
 use protocol::Name;

@@ -1,11 +1,11 @@
 -- The bytes of a file determine what opening it answers.
 use mathlib.Core.Path.{_≡_, refl, sym, ap, subst, _∙_}
-use mathlib.Core.Bool.{Bool, true, false, cond, _&&_, not}
-use mathlib.Core.List.{List, [], _∷_, _++_}
-use Prim.Native.Nat.{ℕ, _+_, _<_, _≤_}
+use mathlib.Core.Bool.{Bool, true, false, not}
+use mathlib.Core.List.{List, [], _∷_}
+use Prim.Native.Nat.{ℕ, _+_, _≤_}
 use native.Mathlib.Omega.{arith}
 use lib.ListN.{drop}
-use Rattle.std.proofs.shelf.Tests.{and-parts, and-from, le-ltb}
+use Rattle.std.proofs.shelf.Tests.{both-ways, and-parts, and-from, le-ltb}
 use Rattle.std.specs.declared.result.Result.{Result}
 use Rattle.std.specs.declared.result.Result.the-variants.{Ok, Err}
 use Rattle.protocol.specs.Model.{mostBytes}
@@ -15,7 +15,7 @@ use Rattle.protocol.proofs.Replays.{state-opened}
 use Rattle.orders.specs.Order.{Rec, entryModel}
 use Rattle.orders.specs.Refusals.{numberOf}
 use Rattle.orders.specs.Parse.{got, cut, bad, parse}
-use Rattle.orders.specs.File.{Reached, start, next}
+use Rattle.orders.proofs.Files.{Front, none, first, front}
 use Rattle.orders.specs.declared.Refusal.{Refusal}
 use Rattle.ledger.specs.View.{view}
 use Rattle.ledger.specs.Opening.{admitted, isHouse, ReadTo, Cause, noHouse, noRecord, notNext, Opened, SaysFile, OpensOnce}
@@ -28,19 +28,6 @@ S = State entryModel
 
 pub says-file : SaysFile
 says-file n h bs v p = p .state ∙ sym (state-opened entryModel h (p .records))
-
--- a reading, from its first record on
-data Front (n : ℕ) : List ℕ → List Rec → List ℕ → Type 0 where
-  none : (bs : List ℕ) → Front n bs [] bs
-  first : (bs cs : List ℕ) (r : Rec) (rs : List Rec) (xs : List ℕ) → parse n bs ≡ got r cs → Front n cs rs xs → Front n bs (r ∷ rs) xs
-
-push : (n : ℕ) (bs : List ℕ) (rs : List Rec) (xs rest : List ℕ) (r : Rec) → Front n bs rs xs → parse n xs ≡ got r rest → Front n bs (rs ++ r ∷ []) rest
-push n bs rs xs rest r (none os) e = first os rest r [] rest e (none rest)
-push n bs rs xs rest r (first os cs q qs ys f h) e = first os cs q (qs ++ r ∷ []) rest f (push n cs qs ys rest r h e)
-
-front : (n : ℕ) (bs : List ℕ) (rs : List Rec) (xs : List ℕ) → Reached n bs rs xs → Front n bs rs xs
-front n bs rs xs start = none bs
-front n bs rs xs (next qs ys rest r h f) = push n bs qs ys rest r (front n bs qs ys h) f
 
 -- each record may come next
 AllNext : ℕ → List Rec → S → Type 0
@@ -67,7 +54,7 @@ abbrev Stops : ℕ → ℕ → List ℕ → S → Type 0
 Stops n h xs v = (r : Rec) (rest : List ℕ) → parse n xs ≡ got r rest → admitted h r v ≡ false
 
 never : {A : Type 0} (b : Bool) → b ≡ true → b ≡ false → A
-never b e f = let z : _≡_ {A = ℕ} 0 1 = ap (λ c. cond c 0 1) (sym e ∙ f) in absurd (omega arith)
+never b e f = absurd (both-ways b f e)
 
 one-front : (n h : ℕ) (bs : List ℕ) (rs qs : List Rec) (xs ys : List ℕ) (u : S) → Front n bs rs xs → AllNext h rs u → Stops n h xs (replay entryModel h rs u) → Front n bs qs ys → AllNext h qs u → Stops n h ys (replay entryModel h qs u) → rs ≡ qs
 unfolding replay AllNext

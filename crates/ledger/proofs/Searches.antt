@@ -1,12 +1,11 @@
--- A search for the first that passes, and what it leaves when it is taken out.
+-- What is left of the orders held back when the first of a name is taken out.
 use mathlib.Core.Path.{_≡_, refl, sym, ap, _∙_, subst}
-use mathlib.Core.Bool.{Bool, true, false, cond, _||_}
-use mathlib.Core.List.{List, [], _∷_, _++_, map}
-use Prim.Native.Nat.{ℕ, zero, suc, _+_, _<_, _≤_}
-use native.Mathlib.Omega.{arith}
-use native.Mathlib.Numerals.{add-one}
-use lib.ListN.{length, getD, take, drop}
+use mathlib.Core.Bool.{Bool, false, cond}
+use mathlib.Core.List.{List, [], _∷_, map}
+use Prim.Native.Nat.{ℕ, zero, suc}
+use lib.ListN.{getD}
 use Rattle.std.specs.Holes.{removed}
+use Rattle.std.proofs.shelf.Tests.{or-parts}
 use Rattle.protocol.specs.declared.Name.{Name}
 use Rattle.protocol.specs.Model.{sameName}
 use Rattle.protocol.specs.House.{without, doneOf}
@@ -14,39 +13,7 @@ use Rattle.orders.specs.declared.Entry.{Entry}
 use Rattle.orders.specs.Order.{Order, anyBy, ours, entryModel}
 use Rattle.entries.specs.declared.named.NamedOrder.{NamedOrder}
 use Rattle.entries.specs.Named.{namedOf}
-use Rattle.ledger.specs.Firsts.{FirstAt}
-
-module _ {X : Type 0} (p : X → Bool) where
-  unfoldable pub NoneTo : List X → ℕ → Type 0
-  NoneTo [] i = Unit {0}
-  NoneTo (x ∷ xs) zero = Unit {0}
-  NoneTo (x ∷ xs) (suc i) = (p x ≡ false) × NoneTo xs i
-
-  pub none-start : (xs : List X) → NoneTo xs 0
-  unfolding NoneTo
-  none-start [] = tt
-  none-start (x ∷ xs) = tt
-
-  none-suc : (xs : List X) (i : ℕ) (d : X) → NoneTo xs i → p (getD xs i d) ≡ false → NoneTo xs (suc i)
-  unfolding NoneTo
-  none-suc [] i d n e = tt
-  none-suc (x ∷ xs) zero d n e = (e, none-start xs)
-  none-suc (x ∷ xs) (suc i) d n e = (n .0, none-suc xs i d (n .1) e)
-
-  pub none-more : (xs : List X) (i : ℕ) (d : X) → NoneTo xs i → p (getD xs i d) ≡ false → NoneTo xs (i + 1)
-  none-more xs i d n e = subst (NoneTo xs) (sym (add-one i)) (none-suc xs i d n e)
-
-  pub first-at : (xs : List X) (i : ℕ) (d : X) → i < length xs → NoneTo xs i → p (getD xs i d) ≡ true → FirstAt p xs i
-  unfolding NoneTo FirstAt
-  first-at [] i d l n e = absurd (omega arith)
-  first-at (x ∷ xs) zero d l n e = e
-  first-at (x ∷ xs) (suc i) d l n e = (n .0, first-at xs i d (omega arith) (n .1) e)
-
-  pub none-end : (xs : List X) (i : ℕ) → length xs ≤ i → NoneTo xs i → anyBy p xs ≡ false
-  unfolding NoneTo
-  none-end [] i l n = refl
-  none-end (x ∷ xs) zero l n = absurd (omega arith)
-  none-end (x ∷ xs) (suc i) l n = ap (λ b. b || anyBy p xs) (n .0) ∙ none-end xs i (omega arith) (n .1)
+use Rattle.entries.specs.First.{FirstAt}
 
 module _ (n : Name) where
   abbrev pub named : NamedOrder → Bool
@@ -69,22 +36,18 @@ module _ (n : Name) where
       ∙ out-done h xs i y m (f .1) e
       ∙ sym (ap (λ b. doneOf entryModel h n (map namedOf xs) (cond b (ours h (namedOf x .writes) m) m)) (f .0))
 
-  or-right : (a b : Bool) → (a || b) ≡ false → (a ≡ false) × (b ≡ false)
-  or-right true b e = let z : _≡_ {A = ℕ} 0 1 = ap (λ (c : Bool). cond c 0 1) e in absurd (omega arith)
-  or-right false b e = (refl, e)
-
   pub none-without : (xs : List NamedOrder) → anyBy named xs ≡ false → without entryModel n (map namedOf xs) ≡ map namedOf xs
   unfolding without
   none-without [] e = refl
   none-without (x ∷ xs) e =
-      let q = or-right (named x) (anyBy named xs) e in
+      let q = or-parts (named x) (anyBy named xs) e in
       ap (λ b. cond b (without entryModel n (map namedOf xs)) (namedOf x ∷ without entryModel n (map namedOf xs))) (q .0) ∙ ap (λ w. namedOf x ∷ w) (none-without xs (q .1))
 
   pub none-done : (h : ℕ) (xs : List NamedOrder) (m : List ℕ) → anyBy named xs ≡ false → doneOf entryModel h n (map namedOf xs) m ≡ m
   unfolding doneOf
   none-done h [] m e = refl
   none-done h (x ∷ xs) m e =
-      let q = or-right (named x) (anyBy named xs) e in
+      let q = or-parts (named x) (anyBy named xs) e in
       ap (λ b. doneOf entryModel h n (map namedOf xs) (cond b (ours h (namedOf x .writes) m) m)) (q .0) ∙ none-done h xs m (q .1)
 
   pub settled-more : (h : ℕ) (xs sl ys : List NamedOrder) (i : ℕ) (y : NamedOrder) (m m′ : List ℕ) (es : List Entry) (W : List Order) (D : List ℕ) → sl ≡ xs → FirstAt named sl i → ys ≡ removed xs i → y ≡ getD xs i y → es ≡ namedOf y .writes → m′ ≡ ours h es m →

@@ -1,6 +1,6 @@
 -- The order of names ties a name with itself alone.
-use mathlib.Core.Path.{_≡_, refl, ap, _∙_}
-use mathlib.Core.Bool.{Bool, true, false, _&&_, _||_, cond}
+use mathlib.Core.Path.{_≡_, refl, sym, ap, _∙_}
+use mathlib.Core.Bool.{Bool, true, false, _&&_, _||_, cond, and-assoc}
 use lib.Dec.{eqb}
 use Rattle.std.specs.Keys.{tied, unsigned, unsigned-tied}
 use Rattle.std.specs.Orderings.{isEq, thenBy}
@@ -15,16 +15,12 @@ then-eq Less b = refl
 then-eq Equal b = refl
 then-eq Greater b = refl
 
-and-assoc : (a b c : Bool) → (a && (b && c)) ≡ ((a && b) && c)
-and-assoc true b c = refl
-and-assoc false b c = refl
-
 tied-same : (a b : Name) → tied names a b ≡ sameName a b
 tied-same a b =
     then-eq (unsigned .cmp (a .home) (b .home)) (thenBy (unsigned .cmp (a .start) (b .start)) (unsigned .cmp (a .number) (b .number)))
     ∙ (λ i. unsigned-tied (a .home) (b .home) i && then-eq (unsigned .cmp (a .start) (b .start)) (unsigned .cmp (a .number) (b .number)) i)
     ∙ (λ i. eqb (a .home) (b .home) && (unsigned-tied (a .start) (b .start) i && unsigned-tied (a .number) (b .number) i))
-    ∙ and-assoc (eqb (a .home) (b .home)) (eqb (a .start) (b .start)) (eqb (a .number) (b .number))
+    ∙ sym (and-assoc (eqb (a .home) (b .home)) (eqb (a .start) (b .start)) (eqb (a .number) (b .number)))
 
 cond-or : (b c : Bool) → cond b true c ≡ (b || c)
 cond-or true c = refl

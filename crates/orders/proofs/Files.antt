@@ -38,9 +38,13 @@ pub file-appended : FileAppended
 file-appended n bs rs r h ok =
     next rs (recBytes r) [] r (longer n bs rs [] (recBytes r) h) (ap (parse n) (sym (append-nil (recBytes r))) ∙ reads-back n r [] ok)
 
+-- the bytes of one record more
+pub bytes-snoc : (rs : List Rec) (r : Rec) → allBytes (rs ++ (r ∷ [])) ≡ allBytes rs ++ recBytes r
+bytes-snoc [] r = append-nil (recBytes r)
+bytes-snoc (x ∷ rs) r = ap (λ (bs : List ℕ). recBytes x ++ bs) (bytes-snoc rs r) ∙ sym (append-assoc (recBytes x) (allBytes rs) (recBytes r))
+
 all-push : (rs : List Rec) (r : Rec) (xs : List ℕ) → allBytes (rs ++ r ∷ []) ++ xs ≡ allBytes rs ++ (recBytes r ++ xs)
-all-push [] r xs = ap (λ w. w ++ xs) (append-nil (recBytes r))
-all-push (q ∷ rs) r xs = append-assoc (recBytes q) (allBytes (rs ++ r ∷ [])) xs ∙ ap (λ w. recBytes q ++ w) (all-push rs r xs) ∙ sym (append-assoc (recBytes q) (allBytes rs) (recBytes r ++ xs))
+all-push rs r xs = ap (λ w. w ++ xs) (bytes-snoc rs r) ∙ append-assoc (allBytes rs) (recBytes r) xs
 
 pub file-one-form : FileOneForm
 file-one-form n bs rs xs b start = refl
@@ -49,7 +53,7 @@ file-one-form n bs rs xs b (next qs ys rest r h f) =
     e ∙ ap (λ w. allBytes qs ++ w) (one-form n ys rest r (bytes-rest (allBytes qs) ys (subst Bytes e b)) f) ∙ sym (all-push qs r rest)
 
 -- the same reading, from its first record on
-data Front (n : ℕ) : List ℕ → List Rec → List ℕ → Type 0 where
+pub data Front (n : ℕ) : List ℕ → List Rec → List ℕ → Type 0 where
   none : (bs : List ℕ) → Front n bs [] bs
   first : (bs cs : List ℕ) (r : Rec) (rs : List Rec) (xs : List ℕ) → parse n bs ≡ got r cs → Front n cs rs xs → Front n bs (r ∷ rs) xs
 
@@ -57,7 +61,7 @@ push : (n : ℕ) (bs : List ℕ) (rs : List Rec) (xs rest : List ℕ) (r : Rec) 
 push n bs rs xs rest r (none os) e = first os rest r [] rest e (none rest)
 push n bs rs xs rest r (first os cs q qs ys f h) e = first os cs q (qs ++ r ∷ []) rest f (push n cs qs ys rest r h e)
 
-front : (n : ℕ) (bs : List ℕ) (rs : List Rec) (xs : List ℕ) → Reached n bs rs xs → Front n bs rs xs
+pub front : (n : ℕ) (bs : List ℕ) (rs : List Rec) (xs : List ℕ) → Reached n bs rs xs → Front n bs rs xs
 front n bs rs xs start = none bs
 front n bs rs xs (next qs ys rest r h f) = push n bs qs ys rest r (front n bs qs ys h) f
 

@@ -1,13 +1,14 @@
 -- How steps leave the host and the tie between the live state and the file, over plain variables.
 use mathlib.Core.Path.{_≡_, refl, sym, ap, subst, subst⁻¹, _∙_}
-use mathlib.Core.Bool.{Bool, true, false, _&&_, _||_}
-use mathlib.Core.List.{List, [], _∷_, _++_, append-nil, append-assoc}
-use Prim.Native.Nat.{ℕ, _+_}
+use mathlib.Core.Bool.{Bool, true, false, _&&_, _||_, or-false}
+use mathlib.Core.List.{List, [], _∷_, _++_, append-nil}
+use Prim.Native.Nat.{ℕ}
 use native.Mathlib.Omega.{arith}
 use lib.Dec.{T}
 use lib.ListN.{length, take, length-append}
 use lib.Seq.{take-all, take-append-le}
 use Rattle.std.specs.declared.result.Result.the-variants.{Ok}
+use Rattle.std.proofs.shelf.Lists.{length-push}
 use Rattle.protocol.specs.declared.Name.{Name}
 use Rattle.protocol.specs.Model.{sameName}
 use Rattle.protocol.specs.House.{Held, Ruled, everHeld, ruled, isIn, isHeld, isRuled}
@@ -21,20 +22,13 @@ use mathlib.Core.Logic.{inl, inr}
 use Rattle.orders.specs.Order.{Order, Rec, Msg, sameOrder, sameEntries, entryModel}
 use Rattle.orders.specs.Encode.{recBytes}
 use Rattle.orders.specs.File.{allBytes}
+use Rattle.orders.proofs.Files.{bytes-snoc}
 use Rattle.steps.specs.Hosts.{World, Backed, onDisk, spoken, performed}
 use Rattle.steps.specs.Stepped.{Stepped}
 use Rattle.steps.specs.Ties.{Tied}
 
 of-true : (b : Bool) → b ≡ true → T b
 of-true b e = subst⁻¹ (λ (x : Bool). T x) e tt
-
--- the bytes of one record more
-pub bytes-snoc : (rs : List Rec) (r : Rec) → allBytes (rs ++ (r ∷ [])) ≡ allBytes rs ++ recBytes r
-bytes-snoc [] r = append-nil (recBytes r)
-bytes-snoc (x ∷ rs) r = ap (λ (bs : List ℕ). recBytes x ++ bs) (bytes-snoc rs r) ∙ sym (append-assoc (recBytes x) (allBytes rs) (recBytes r))
-
-length-snoc : (rs : List Rec) (r : Rec) → length (rs ++ (r ∷ [])) ≡ length rs + 1
-length-snoc rs r = length-append rs (r ∷ [])
 
 -- an order that is held back is there by its name
 named : (t : Order) (us : List Order) → T (isHeldBack entryModel t us) → T (isIn entryModel (t .name) us)
@@ -119,9 +113,8 @@ pub note-step : (i : ℕ) (p : Verdict (Output entryModel)) (r : Rec) (x y : Wor
 unfolding replay
 note-step i p r x y v u e s a = subst (λ (q : Verdict (Output entryModel)). Stepped i q x y v u (Ok tt)) e (refl, s, a)
 
-or-false : (a b : Bool) → b ≡ false → a || b ≡ a
-or-false true b e = refl
-or-false false b e = e
+or-none : (a b : Bool) → b ≡ false → a || b ≡ a
+or-none a b e = ap (λ (c : Bool). a || c) e ∙ or-false a
 
 pub note-tied : (i : ℕ) (r : Rec) (x y : World) (v u : State entryModel) → ((d : Name) → isHeld entryModel d r ≡ false) → ((d : Name) → isRuled entryModel d r ≡ false) →
     y ≡ performed (note r) x → u ≡ apply entryModel i r v → Tied i x v → Tied i y u
@@ -131,11 +124,11 @@ note-tied i r x y v u nh nr s a q =
     subst⁻¹ (λ (w : World). Tied i w u) s (record {
       log = log;
       kept = q .kept;
-      few = omega (arith, q .few, length-snoc (q .log) r);
+      few = omega (arith, q .few, length-push (q .log) r);
       within = omega (arith, q .within, length-append (x .file) (allBytes (r ∷ [])));
       file = file-more (q .log) r (x .file) (q .file);
       disk = take-append-le (x .durable) (x .file) (allBytes (r ∷ [])) (q .within) ∙ q .disk ∙ ap (λ (rs : List Rec). allBytes rs) (sym first);
       state = state-more i (q .log) r v u (q .state) a;
-      held = λ d e. ap (λ (rs : List Rec). everHeld entryModel d rs) first ∙ q .held d (sym (ever-snoc entryModel i d (q .log) r ∙ or-false (everHeld entryModel d (q .log)) (isHeld entryModel d r) (nh d)) ∙ e);
-      rules = λ d e. ap (λ (rs : List Rec). ruled entryModel d rs) first ∙ q .rules d (sym (ruled-snoc entryModel i d (q .log) r ∙ or-false (ruled entryModel d (q .log)) (isRuled entryModel d r) (nr d)) ∙ e);
+      held = λ d e. ap (λ (rs : List Rec). everHeld entryModel d rs) first ∙ q .held d (sym (ever-snoc entryModel i d (q .log) r ∙ or-none (everHeld entryModel d (q .log)) (isHeld entryModel d r) (nh d)) ∙ e);
+      rules = λ d e. ap (λ (rs : List Rec). ruled entryModel d rs) first ∙ q .rules d (sym (ruled-snoc entryModel i d (q .log) r ∙ or-none (ruled entryModel d (q .log)) (isRuled entryModel d r) (nr d)) ∙ e);
     })

@@ -1,6 +1,6 @@
 -- What the steps' tests say of the plans, over plain variables.
 use mathlib.Core.Path.{_≡_, refl, sym, ap, subst, subst⁻¹, _∙_}
-use mathlib.Core.Bool.{Bool, true, false, cond, _&&_, _||_, not}
+use mathlib.Core.Bool.{Bool, true, false, cond, _&&_, _||_, not, or-true}
 use mathlib.Core.List.{List, [], _∷_, _++_, append-nil}
 use Prim.Native.Nat.{ℕ, _+_, _≤_, _<_}
 use native.Mathlib.Omega.{arith}
@@ -42,10 +42,6 @@ module _ (i : ℕ) (d : Name) (v : State entryModel) (m : Memory entryModel) whe
   pub no-old : eqb (d .home) i ≡ true → v .ruled d ≡ false → ltb (d .start) (v .began) ≡ true → does (speak entryModel (Told d false ∷ [])) ≡ planAnswer entryModel i d v m
   unfolding unless
   no-old p q r = by-tests true false true p q (ap (λ (b : Bool). b || over) r)
-
-  or-true : (a : Bool) → (a || true) ≡ true
-  or-true true = refl
-  or-true false = refl
 
   pub no-over : eqb (d .home) i ≡ true → v .ruled d ≡ false → over ≡ true → does (speak entryModel (Told d false ∷ [])) ≡ planAnswer entryModel i d v m
   unfolding unless

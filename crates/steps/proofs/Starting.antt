@@ -25,7 +25,7 @@ use Rattle.steps.specs.declared.broken.Trouble.{Trouble}
 use Rattle.steps.specs.declared.broken.Trouble.the-variants.{Refused, NoMemory, Down}
 use Rattle.steps.specs.Hosts.{World, appended, synced}
 use Rattle.steps.specs.Start.{Holds, Up, OpenedLog, CameUp}
-use Rattle.steps.proofs.Driving.{bytes-snoc}
+use Rattle.orders.proofs.Files.{bytes-snoc}
 
 take-front : (xs ys bs : List ℕ) (k : ℕ) → bs ≡ xs ++ ys → length xs ≡ k → take k bs ≡ xs
 take-front xs ys bs k e l =

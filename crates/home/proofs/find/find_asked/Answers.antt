@@ -1,6 +1,6 @@
 use mathlib.Core.Path.{sym, ap, _∙_}
-use Rattle.home.specs.Find.{askedOf}
-use Rattle.home.proofs.Searches.{none-start, none-more, first-at, none-end}
+use Rattle.entries.proofs.Searches.{none-start, none-more, first-at, none-end}
+use Rattle.home.specs.Memory.{askedOf}
 use Rattle.home.proofs.find.find_asked.Needs as need
 
 pub loop-i-holds : need.loop-i-holds

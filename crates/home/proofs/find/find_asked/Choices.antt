@@ -1,5 +1,5 @@
-use Rattle.home.specs.Find.{askedOf}
-use Rattle.home.proofs.Searches.{NoneTo}
+use Rattle.entries.proofs.Searches.{NoneTo}
+use Rattle.home.specs.Memory.{askedOf}
 use Rattle.home.proofs.find.find_asked.Given as given
 
 abbrev pub Inv-loop-i : given.InvT-loop-i

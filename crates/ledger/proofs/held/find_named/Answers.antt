@@ -1,5 +1,6 @@
 use mathlib.Core.Path.{sym, ap, _∙_}
-use Rattle.ledger.proofs.Searches.{none-start, none-more, first-at, none-end, named}
+use Rattle.entries.proofs.Searches.{none-start, none-more, first-at, none-end}
+use Rattle.ledger.proofs.Searches.{named}
 use Rattle.ledger.proofs.held.find_named.Needs as need
 
 pub loop-i-holds : need.loop-i-holds

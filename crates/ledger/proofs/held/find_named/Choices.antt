@@ -1,4 +1,5 @@
-use Rattle.ledger.proofs.Searches.{NoneTo, named}
+use Rattle.entries.proofs.Searches.{NoneTo}
+use Rattle.ledger.proofs.Searches.{named}
 use Rattle.ledger.proofs.held.find_named.Given as given
 
 abbrev pub Inv-loop-i : given.InvT-loop-i

@@ -3,8 +3,8 @@ use mathlib.Core.List.{map}
 use Rattle.std.specs.Of.Vec.{vec-items}
 use Rattle.protocol.specs.House.{without}
 use Rattle.orders.specs.Order.{entryModel, anyBy}
+use Rattle.entries.specs.First.{FirstAt}
 use Rattle.entries.specs.Named.{namedOf}
-use Rattle.ledger.specs.Firsts.{FirstAt}
 use Rattle.ledger.proofs.Searches.{out-without, none-without, named}
 use Rattle.ledger.proofs.held.take_out.Needs as need
 

@@ -7,7 +7,7 @@ use native.Mathlib.Omega.{arith}
 use native.Mathlib.Numerals.{add-one}
 use lib.ListN.{length, getD}
 use Rattle.orders.specs.Order.{anyBy}
-use Rattle.home.specs.Find.{FirstAt}
+use Rattle.entries.specs.First.{FirstAt}
 
 module _ {X : Type 0} (p : X → Bool) where
   -- none passes of those before the i-th
