@@ -1,7 +1,9 @@
 //! The tests, in one program.
 
 mod bytes;
+mod generator;
 mod lines;
+mod special;
 mod steps;
 mod stops;
 mod transcript;
