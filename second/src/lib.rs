@@ -4,6 +4,7 @@
 //! from the file is kept: each step asks its questions of the records anew.
 
 pub mod command;
+pub mod compare;
 pub mod generate;
 pub mod history;
 pub mod home;

@@ -1,6 +1,7 @@
 //! The tests, in one program.
 
 mod bytes;
+mod compare;
 mod generator;
 mod lines;
 mod special;
