@@ -1,6 +1,6 @@
 // A host in memory: the log as bytes, how many of them are durable, and every message sent.
 ghost use mathlib.Core.Path.{_≡_};
-ghost use mathlib.Core.List.{List, map, _++_};
+ghost use mathlib.Core.List.{[], map, _++_};
 ghost use Rattle.std.specs.Results.{Cases};
 ghost use Rattle.std.specs.Vec.{made};
 ghost use Rattle.std.specs.Of.Vec.{vec-items, vec-len};
@@ -27,7 +27,10 @@ pub struct MemoryHost {
 }
 
 impl MemoryHost {
-    pub fn new(heap: Global) -> MemoryHost {
+    // An empty log, and nothing sent.
+    pub fn new(heap: Global) -> MemoryHost
+        ensures { λ r. ⌜ vec-items (r .log) ≡ [] ⌝ ∗ ⌜ r .durable ≡ 0 ⌝ ∗ ⌜ vec-items (r .sent) ≡ [] ⌝ }
+    {
         MemoryHost {
             log: Vec::new(heap),
             durable: 0,

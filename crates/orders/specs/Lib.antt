@@ -7,3 +7,4 @@ pub mod Answers
 pub mod Room
 pub mod Laws
 pub mod File
+pub mod Replies
