@@ -2,4 +2,4 @@ use Rattle.orders.proofs.Files.{file-reads-back, file-cut-short, file-one-readin
 use Rattle.orders.proofs.laws.file_laws.Goals as goal
 
 pub returns : goal.returns
-returns c = record { reads-back = file-reads-back; cut_short = file-cut-short; one-reading = file-one-reading; one_form = file-one-form; appended = file-appended }
+returns c = record { reads_back = file-reads-back; cut_short = file-cut-short; one_reading = file-one-reading; one_form = file-one-form; appended = file-appended }

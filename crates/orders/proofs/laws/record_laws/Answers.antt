@@ -5,4 +5,4 @@ use Rattle.orders.proofs.Longer.{cut_short, more-behind, stays-refused}
 use Rattle.orders.proofs.laws.record_laws.Goals as goal
 
 pub returns : goal.returns
-returns c = record { reads-back = reads-back; one_form = one_form; cut_short = cut_short; more-behind = more-behind; stays-refused = stays-refused; sized = sized }
+returns c = record { reads_back = reads-back; one_form = one_form; cut_short = cut_short; more_behind = more-behind; stays_refused = stays-refused; sized = sized }
