@@ -1,6 +1,5 @@
 // Sets of names, for look-ups that never scan a file.
 ghost use Rattle.std.specs.Prelude.{◌≡◌, vec_len};
-ghost use Rattle.names.specs.Names.{names};
 
 use protocol::Name;
 use std::collections::BTreeSet;

@@ -9,7 +9,7 @@ pub loop-e-preserved : goal.loop-e-preserved
 loop-e-preserved c =
     let e : Entry = record { key = 0; amount = 0 } in
     let f = fold_more (λ a x. put c.args.house x a) c.args.shelves.now c.args.entries.now c.loop-e.e-index e c.loop-e-test.true in
-    c.write-one.ensures ∙ ap (put c.args.house _) c.loop-e.invariant ∙ sym f
+    c.write_one.ensures ∙ ap (put c.args.house _) c.loop-e.invariant ∙ sym f
 
 pub returns : goal.returns
 returns c = c.loop-e.invariant ∙ ap (λ es. ours c.args.house es c.args.shelves.now) (take_all c.loop-e.e-index c.args.entries.now c.loop-e-test.false)

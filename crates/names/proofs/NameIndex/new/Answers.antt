@@ -10,7 +10,7 @@ use Rattle.names.proofs.NameIndex.new.Goals as goal
 pub loop-i-preserved : goal.loop-i-preserved
 loop-i-preserved c = (
   search rules,
-  subst (All (λ (r : NameSet). (n : Name) → in_set r n ≡ false)) (sym c.in-ok-push.ensures.items) (All-push (λ (r : NameSet). (n : Name) → in_set r n ≡ false) (vec_items c.loop-i.homes) c.new.result c.loop-i.invariant.1 c.new.ensures),
+  subst (All (λ (r : NameSet). (n : Name) → in_set r n ≡ false)) (sym c.in_ok-push.ensures.items) (All-push (λ (r : NameSet). (n : Name) → in_set r n ≡ false) (vec_items c.loop-i.homes) c.new.result c.loop-i.invariant.1 c.new.ensures),
 )
 
 pub returns : goal.returns

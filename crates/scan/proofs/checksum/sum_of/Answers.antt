@@ -15,14 +15,14 @@ loop-record-preserved c =
     let r = rec_of c.in-Whole.record c.in-Whole.order in (
       _,
       next rs _ _ r c.loop-record.invariant.1 (sym c.in-Whole.ensures.value),
-      c.add-record-sum.ensures ∙ ap (λ s. plus_rec s r) c.loop-record.invariant.2 ∙ sym (fold_push plus_rec 0 rs r),
+      c.add_record-sum.ensures ∙ ap (λ s. plus_rec s r) c.loop-record.invariant.2 ∙ sym (fold_push plus_rec 0 rs r),
     )
 
-pub returns-in-default : goal.returns-in-default
-returns-in-default c = (
+pub returns-in_default : goal.returns-in_default
+returns-in_default c = (
   c.loop-record.invariant.0,
   _,
   c.loop-record.invariant.1,
-  not-whole c.args.houses c.args.bytes.now _ c.record-at.result c.record-at.ensures.value c.in-default.not-Whole,
+  not-whole c.args.houses c.args.bytes.now _ c.record_at.result c.record_at.ensures.value c.in_default.not-Whole,
   c.loop-record.invariant.2,
 )
