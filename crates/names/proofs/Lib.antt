@@ -1,2 +1,1 @@
-pub mod Tied
 pub mod Homes

@@ -8,11 +8,11 @@ pub returns : goal.returns
 returns c = record {
   view = λ i. record {
     began = c.args.self.now.start;
-    held = (ap (map named_of) (c.push-reserved.ensures.items ∙ ap (λ xs. xs ++ (c.args.order.now ∷ [])) c.reserve.ensures.items) ∙ map_push named_of (vec_items c.args.self.now.held) c.args.order.now) i;
+    held = (ap (map named_of) (c.push_reserved.ensures.items ∙ ap (λ xs. xs ++ (c.args.order.now ∷ [])) c.reserve.ensures.items) ∙ map_push named_of (vec_items c.args.self.now.held) c.args.order.now) i;
     shelves = c.args.shelves.now;
-    ever = λ d. c.in-ok-insert.ensures d i;
+    ever = λ d. c.in_ok-insert.ensures d i;
     ruled = in_index c.args.self.now.ruled;
-    bytes = ap (λ k. c.args.self.now.bytes + k) c.record-len.ensures.held i;
+    bytes = ap (λ k. c.args.self.now.bytes + k) c.record_len.ensures.held i;
   };
   house = refl;
 }

@@ -9,21 +9,21 @@ pub returns-then-contains : goal.returns-then-contains
 unfolding unless
 returns-then-contains c = record { answer = grind (arith, nat_tests); new = tt }
 
-pub returns-then-any-clashes : goal.returns-then-any-clashes
+pub returns-then-any_clashes : goal.returns-then-any_clashes
 unfolding unless
-returns-then-any-clashes c = record { answer = grind (arith, nat_tests); new = tt }
+returns-then-any_clashes c = record { answer = grind (arith, nat_tests); new = tt }
 
 pub returns-then-not-sees : goal.returns-then-not-sees
 unfolding unless
 returns-then-not-sees c = record { answer = grind (arith, nat_tests); new = tt }
 
-pub returns-then-len-ge-MAX-HELD : goal.returns-then-len-ge-MAX-HELD
+pub returns-then-len-ge-MAX_HELD : goal.returns-then-len-ge-MAX_HELD
 unfolding unless
-returns-then-len-ge-MAX-HELD c = let l = length-map (vec_items c.args.self.now.held) named_of in record { answer = grind (arith, nat_tests); new = tt }
+returns-then-len-ge-MAX_HELD c = let l = length-map (vec_items c.args.self.now.held) named_of in record { answer = grind (arith, nat_tests); new = tt }
 
-pub returns-then-self-record-len-gt-MAX-BYTES : goal.returns-then-self-record-len-gt-MAX-BYTES
+pub returns-then-self-record_len-gt-MAX_BYTES : goal.returns-then-self-record_len-gt-MAX_BYTES
 unfolding unless
-returns-then-self-record-len-gt-MAX-BYTES c = let l = length-map (vec_items c.args.self.now.held) named_of in record { answer = grind (arith, nat_tests); new = tt }
+returns-then-self-record_len-gt-MAX_BYTES c = let l = length-map (vec_items c.args.self.now.held) named_of in record { answer = grind (arith, nat_tests); new = tt }
 
 pub returns : goal.returns
 unfolding unless

@@ -2,32 +2,32 @@ use Rattle.std.proofs.Common.{◌≡◌, cond, refl, ap, ◌∙◌}
 use Rattle.ledger.specs.View.{view}
 use Rattle.ledger.proofs.Replay.{read_none, read-end, read-long, read-wrong, read_fits, read_more}
 use Rattle.ledger.proofs.Ledger.replay.Goals as goal
-use Rattle.ledger.proofs.Ledger.replay.Goals.{then-next-gt-MAX-BYTES-via-then-next-gt-MAX-BYTES, then-next-gt-MAX-BYTES-via-else-next-gt-MAX-BYTES+then-not-admits}
+use Rattle.ledger.proofs.Ledger.replay.Goals.{then-next-gt-MAX_BYTES-via-then-next-gt-MAX_BYTES, then-next-gt-MAX_BYTES-via-else-next-gt-MAX_BYTES+then-not-admits}
 
 pub loop-record-init : goal.loop-record-init
 loop-record-init c = (read_none c.args.houses c.args.self.now.house c.args.bytes.now (view c.args.self.now c.args.shelves.now) c.requires.house c.requires.empty, refl)
 
-pub returns-in-default : goal.returns-in-default
-returns-in-default c = record {
-  answer = read-end c.args.houses c.args.self.now.house c.args.bytes.now (view c.loop-record.self c.loop-record.shelves) c.record-at-read.result c.end-of.result c.loop-record.invariant.0 c.record-at-read.ensures.value c.in-default.not-Whole c.end-of.ensures;
+pub returns-in_default : goal.returns-in_default
+returns-in_default c = record {
+  answer = read-end c.args.houses c.args.self.now.house c.args.bytes.now (view c.loop-record.self c.loop-record.shelves) c.record_at-read.result c.end_of.result c.loop-record.invariant.0 c.record_at-read.ensures.value c.in_default.not-Whole c.end_of.ensures;
   house = c.loop-record.invariant.1;
 }
 
-pub returns-then-next-gt-MAX-BYTES : goal.returns-then-next-gt-MAX-BYTES
-returns-then-next-gt-MAX-BYTES c = record {
+pub returns-then-next-gt-MAX_BYTES : goal.returns-then-next-gt-MAX_BYTES
+returns-then-next-gt-MAX_BYTES c = record {
   answer =
-      elim c.then-next-gt-MAX-BYTES.branch [
-        | then-next-gt-MAX-BYTES-via-then-next-gt-MAX-BYTES w ↦ read-long _ _ _ c.type-inv.bytes c.loop-record.self.house c.loop-record.invariant.1 _ c.loop-record.invariant.0 _ _ c.in-Whole.ensures.value c.in-Whole.ensures.next w.if-next-gt-MAX-BYTES.true
-        | then-next-gt-MAX-BYTES-via-else-next-gt-MAX-BYTES+then-not-admits w ↦ read-wrong _ _ _ c.type-inv.bytes c.loop-record.self.house c.loop-record.invariant.1 _ c.loop-record.invariant.0 _ _ c.in-Whole.ensures.value c.in-Whole.ensures.next w.if-not-admits.ensures
+      elim c.then-next-gt-MAX_BYTES.branch [
+        | then-next-gt-MAX_BYTES-via-then-next-gt-MAX_BYTES w ↦ read-long _ _ _ c.type_inv.bytes c.loop-record.self.house c.loop-record.invariant.1 _ c.loop-record.invariant.0 _ _ c.in-Whole.ensures.value c.in-Whole.ensures.next w.if-next-gt-MAX_BYTES.true
+        | then-next-gt-MAX_BYTES-via-else-next-gt-MAX_BYTES+then-not-admits w ↦ read-wrong _ _ _ c.type_inv.bytes c.loop-record.self.house c.loop-record.invariant.1 _ c.loop-record.invariant.0 _ _ c.in-Whole.ensures.value c.in-Whole.ensures.next w.if-not-admits.ensures
       ];
   house = c.loop-record.invariant.1;
 }
 
 pub apply-requires : goal.apply-requires
-apply-requires c = read_fits _ _ _ c.type-inv.bytes c.loop-record.self.house c.loop-record.invariant.1 _ c.loop-record.invariant.0 _ _ c.in-Whole.ensures.value c.in-Whole.ensures.next c.if-next-gt-MAX-BYTES.false c.if-not-admits.ensures
+apply-requires c = read_fits _ _ _ c.type_inv.bytes c.loop-record.self.house c.loop-record.invariant.1 _ c.loop-record.invariant.0 _ _ c.in-Whole.ensures.value c.in-Whole.ensures.next c.if-next-gt-MAX_BYTES.false c.if-not-admits.ensures
 
 pub loop-record-preserved : goal.loop-record-preserved
 loop-record-preserved c = (
-  read_more _ _ _ c.type-inv.bytes c.loop-record.self.house c.loop-record.invariant.1 _ c.loop-record.invariant.0 _ _ c.in-Whole.ensures.value c.in-Whole.ensures.next c.if-next-gt-MAX-BYTES.false c.if-not-admits.ensures _ c.in-Ok.ensures.view,
+  read_more _ _ _ c.type_inv.bytes c.loop-record.self.house c.loop-record.invariant.1 _ c.loop-record.invariant.0 _ _ c.in-Whole.ensures.value c.in-Whole.ensures.next c.if-next-gt-MAX_BYTES.false c.if-not-admits.ensures _ c.in-Ok.ensures.view,
   c.in-Ok.ensures.house ∙ c.loop-record.invariant.1,
 )

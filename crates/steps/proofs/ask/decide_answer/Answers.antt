@@ -7,16 +7,16 @@ use Rattle.steps.proofs.ask.decide_answer.Goals as goal
 pub returns-then-name-start : goal.returns-then-name-start
 returns-then-name-start c =
     no_old c.args.ledger.now.house c.args.name (view c.args.ledger.now c.args.shelves.now) (memory_of c.args.home.now)
-    (eq-eqb _ _ (c.if-name-house.false ∙ c.house.ensures)) (sym c.has-ruled.ensures ∙ c.if-has-ruled.false)
+    (eq-eqb _ _ (c.if-name-house.false ∙ c.house.ensures)) (sym c.has_ruled.ensures ∙ c.if-has_ruled.false)
     (lt-ltb c.args.name.start c.args.ledger.now.start (omega (arith, c.if-name-start.true, c.start.ensures.value)))
 
-pub returns-then-is-over : goal.returns-then-is-over
-returns-then-is-over c =
+pub returns-then-is_over : goal.returns-then-is_over
+returns-then-is_over c =
     no-over c.args.ledger.now.house c.args.name (view c.args.ledger.now c.args.shelves.now) (memory_of c.args.home.now)
-    (eq-eqb _ _ (c.if-name-house.false ∙ c.house.ensures)) (sym c.has-ruled.ensures ∙ c.if-has-ruled.false) (sym c.is-over.ensures ∙ c.if-is-over.true)
+    (eq-eqb _ _ (c.if-name-house.false ∙ c.house.ensures)) (sym c.has_ruled.ensures ∙ c.if-has_ruled.false) (sym c.is_over.ensures ∙ c.if-is_over.true)
 
 pub returns : goal.returns
 returns c =
     no_answer c.args.ledger.now.house c.args.name (view c.args.ledger.now c.args.shelves.now) (memory_of c.args.home.now)
-    (eq-eqb _ _ (c.if-name-house.false ∙ c.house.ensures)) (sym c.has-ruled.ensures ∙ c.if-has-ruled.false)
-    (le-ltb c.args.name.start c.args.ledger.now.start (omega (arith, c.if-name-start.false, c.start.ensures.value))) (sym c.is-over.ensures ∙ c.if-is-over.false)
+    (eq-eqb _ _ (c.if-name-house.false ∙ c.house.ensures)) (sym c.has_ruled.ensures ∙ c.if-has_ruled.false)
+    (le-ltb c.args.name.start c.args.ledger.now.start (omega (arith, c.if-name-start.false, c.start.ensures.value))) (sym c.is_over.ensures ∙ c.if-is_over.false)

@@ -7,4 +7,4 @@ use Rattle.steps.proofs.commit.commit_and_send.Goals as goal
 pub send-requires : goal.send-requires
 send-requires g c =
     let x : World = record { file = g.H.Host.file c.args.host.now; durable = g.H.Host.durable c.args.host.now; sent = g.H.Host.sent c.args.host.now } in
-    backed-synced (msg_of c.args.message c.args.order.now) (rec_bytes (rec_of c.args.record c.args.order.now)) x _ _ c.in-ok-append-record.ensures c.in-ok-sync.ensures c.requires
+    backed-synced (msg_of c.args.message c.args.order.now) (rec_bytes (rec_of c.args.record c.args.order.now)) x _ _ c.in_ok-append_record.ensures c.in_ok-sync.ensures c.requires

@@ -3,12 +3,12 @@ use Rattle.home.specs.Memory.{memory_of}
 use Rattle.home.proofs.Ends.{refuses, accepts, gives_up, none-given-up}
 use Rattle.home.proofs.types.Home.give_up.Goals as goal
 
-pub returns-then-not-is-asking : goal.returns-then-not-is-asking
-returns-then-not-is-asking c = refuses _ _ _ _ (none-given-up c.args.name (memory_of c.args.self) (sym c.if-not-is-asking.ensures))
+pub returns-then-not-is_asking : goal.returns-then-not-is_asking
+returns-then-not-is_asking c = refuses _ _ _ _ (none-given-up c.args.name (memory_of c.args.self) (sym c.if-not-is_asking.ensures))
 
 pub returns : goal.returns
 returns c =
     accepts _ _ _ _
-    (gives_up c.args.name (memory_of c.args.self) _ (sym c.if-not-is-asking.ensures) c.stop-asking.ensures.memory)
-    c.stop-asking.ensures.house
-    c.stop-asking.ensures.start
+    (gives_up c.args.name (memory_of c.args.self) _ (sym c.if-not-is_asking.ensures) c.stop_asking.ensures.memory)
+    c.stop_asking.ensures.house
+    c.stop_asking.ensures.start

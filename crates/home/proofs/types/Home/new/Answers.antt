@@ -6,8 +6,8 @@ use Rattle.home.proofs.types.Home.new.Goals as goal
 
 pub returns : goal.returns
 returns c =
-    let a : vec_items c.in-ok-asking.asking ≡ [] = search rules in
-    let t : vec_items c.in-ok-tried.tried ≡ replicate 65536 false = c.in-ok-tried.ensures.items-if-clones-equal (λ y h. h) in (
+    let a : vec_items c.in_ok-asking.asking ≡ [] = search rules in
+    let t : vec_items c.in_ok-tried.tried ≡ replicate 65536 false = c.in_ok-tried.ensures.items_if_clones_equal (λ y h. h) in (
       λ i. record {
         asking = ap (λ (xs : List Asked). map asking_of xs) a i;
         tried = (ap (λ (marks : List Bool). tried_of c.args.house c.args.start marks) t ∙ tried-none c.args.house c.args.start 65536) i;

@@ -14,13 +14,13 @@ pub returns-then-name-self : goal.returns-then-name-self
 unfolding unless
 returns-then-name-self c = refuses _ _ _ _ (grind (arith, nat_tests))
 
-pub returns-then-has-tried : goal.returns-then-has-tried
+pub returns-then-has_tried : goal.returns-then-has_tried
 unfolding unless
-returns-then-has-tried c = refuses _ _ _ _ (grind (arith, nat_tests))
+returns-then-has_tried c = refuses _ _ _ _ (grind (arith, nat_tests))
 
-pub returns-then-len-ge-MOST-ASKED : goal.returns-then-len-ge-MOST-ASKED
+pub returns-then-len-ge-MOST_ASKED : goal.returns-then-len-ge-MOST_ASKED
 unfolding unless
-returns-then-len-ge-MOST-ASKED c =
+returns-then-len-ge-MOST_ASKED c =
     let l = length-map (vec_items c.args.self.asking) asking_of in
     refuses _ _ _ _ (grind (arith, nat_tests))
 
@@ -34,8 +34,8 @@ returns c =
     (le-leb c.args.order.name.number 65535 (omega arith))
     (eq-eqb _ _ c.if-name-self.false)
     (eq-eqb _ _ c.if-name-self-2.false)
-    (sym c.if-has-tried.ensures)
+    (sym c.if-has_tried.ensures)
     (lt-leb _ _ few)
-    (ap (map asking_of) c.push-reserved.ensures.items ∙ map_push asking_of (vec_items c.args.self.asking) _ ∙ ap (λ (y : ℕ → Bool). map asking_of (vec_items c.args.self.asking) ++ (record { order = named_of c.args.order; yes = y } ∷ [])) (fun_ext (all-false 16)))
+    (ap (map asking_of) c.push_reserved.ensures.items ∙ map_push asking_of (vec_items c.args.self.asking) _ ∙ ap (λ (y : ℕ → Bool). map asking_of (vec_items c.args.self.asking) ++ (record { order = named_of c.args.order; yes = y } ∷ [])) (fun_ext (all-false 16)))
     (tried-set c.args.self.house c.args.self.start (vec_items c.args.self.tried) c.args.order.name c.if-name-self.false c.if-name-self-2.false n))
     refl refl
