@@ -24,7 +24,7 @@ use protocol::Name;
 
 // A new order of this home and start: its houses are asked.
 pub fn submit<H: Host>(host: &mut H, home: Home, order: NamedOrder) -> (Home, Result<(), Trouble>)
-    ensures step { Speaks (out_of (in_range (nat_le order.name.number 65535) (plan_submit entry_model home.house (named_of order) home.start (memory_of home)))) (record { file = file host.old; durable = durable host.old; sent = sent host.old }) (record { file = file host.new; durable = durable host.new; sent = sent host.new }) result.1 }
+    ensures step { Speaks (out_of (in_range (nat_le order.name.number 65535) (plan_submit entry_model home.house (named_of order) home.start (memory_of home)))) (record { file = H.file host.old; durable = H.durable host.old; sent = H.sent host.old }) (record { file = H.file host.new; durable = H.durable host.new; sent = H.sent host.new }) result.1 }
     ensures memory { Remembers (in_range (nat_le order.name.number 65535) (plan_submit entry_model home.house (named_of order) home.start (memory_of home))) home result.0 result.1 }
 {
     let (home, decided) = home.submit(order);
@@ -41,7 +41,7 @@ pub fn submit<H: Host>(host: &mut H, home: Home, order: NamedOrder) -> (Home, Re
 
 // The home stops asking and tells no.
 pub fn give_up<H: Host>(host: &mut H, home: Home, name: Name) -> (Home, Result<(), Trouble>)
-    ensures step { Speaks (out_of (plan_give_up entry_model name (memory_of home))) (record { file = file host.old; durable = durable host.old; sent = sent host.old }) (record { file = file host.new; durable = durable host.new; sent = sent host.new }) result.1 }
+    ensures step { Speaks (out_of (plan_give_up entry_model name (memory_of home))) (record { file = H.file host.old; durable = H.durable host.old; sent = H.sent host.old }) (record { file = H.file host.new; durable = H.durable host.new; sent = H.sent host.new }) result.1 }
     ensures memory { Remembers (plan_give_up entry_model name (memory_of home)) home result.0 result.1 }
 {
     let (home, decided) = home.give_up(name);
@@ -84,9 +84,9 @@ pub fn answer<H: Host>(
     home: &Home,
     name: Name,
 ) -> Result<bool, Trouble>
-    requires { Tied ledger.now.house (record { file = file host.old; durable = durable host.old; sent = sent host.old }) (view ledger.now shelves.now) }
-    ensures step { Told name (plan_answer entry_model ledger.now.house name (view ledger.now shelves.now) (memory_of home.now)) (record { file = file host.old; durable = durable host.old; sent = sent host.old }) (record { file = file host.new; durable = durable host.new; sent = sent host.new }) result }
-    ensures tied { AnswerTied ledger.now.house (record { file = file host.new; durable = durable host.new; sent = sent host.new }) (view ledger.now shelves.now) result }
+    requires { Tied ledger.now.house (record { file = H.file host.old; durable = H.durable host.old; sent = H.sent host.old }) (view ledger.now shelves.now) }
+    ensures step { Told name (plan_answer entry_model ledger.now.house name (view ledger.now shelves.now) (memory_of home.now)) (record { file = H.file host.old; durable = H.durable host.old; sent = H.sent host.old }) (record { file = H.file host.new; durable = H.durable host.new; sent = H.sent host.new }) result }
+    ensures tied { AnswerTied ledger.now.house (record { file = H.file host.new; durable = H.durable host.new; sent = H.sent host.new }) (view ledger.now shelves.now) result }
 {
     match decide_answer(ledger, shelves, home, name) {
         Err(why) => Err(Trouble::Refused(why)),

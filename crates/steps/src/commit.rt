@@ -16,7 +16,7 @@ pub(crate) fn append_record<H: Host>(
     record: Record,
     order: &Order,
 ) -> Result<(), Broken>
-    ensures { Appends (rec_bytes (rec_of «record» order.now)) (record { file = file host.old; durable = durable host.old; sent = sent host.old }) (record { file = file host.new; durable = durable host.new; sent = sent host.new }) result }
+    ensures { Appends (rec_bytes (rec_of «record» order.now)) (record { file = H.file host.old; durable = H.durable host.old; sent = H.sent host.old }) (record { file = H.file host.new; durable = H.durable host.new; sent = H.sent host.new }) result }
 {
     let mut buffer = [0u8; 268];
     let Ok(len) = write_record(&mut buffer, record, order) else {
@@ -32,8 +32,8 @@ pub(crate) fn commit_and_send<H: Host>(
     message: Message,
     order: &Order,
 ) -> Result<(), Broken>
-    requires { Backed (msg_of message order.now) (file host.old ++ rec_bytes (rec_of «record» order.now)) }
-    ensures { Performs (record { adds = rec_of «record» order.now ∷ []; syncs = true; sends = msg_of message order.now ∷ [] }) (record { file = file host.old; durable = durable host.old; sent = sent host.old }) (record { file = file host.new; durable = durable host.new; sent = sent host.new }) result }
+    requires { Backed (msg_of message order.now) (H.file host.old ++ rec_bytes (rec_of «record» order.now)) }
+    ensures { Performs (record { adds = rec_of «record» order.now ∷ []; syncs = true; sends = msg_of message order.now ∷ [] }) (record { file = H.file host.old; durable = H.durable host.old; sent = H.sent host.old }) (record { file = H.file host.new; durable = H.durable host.new; sent = H.sent host.new }) result }
 {
     append_record(host, record, order)?;
     host.sync()?;

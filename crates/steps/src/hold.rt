@@ -24,9 +24,9 @@ pub fn hold<H: Host>(
     shelves: &mut [u32],
     order: &NamedOrder,
 ) -> Result<(), Trouble>
-    requires { Tied ledger.old.house (record { file = file host.old; durable = durable host.old; sent = sent host.old }) (view ledger.old shelves.old) }
-    ensures step { Stepped ledger.old.house (plan_hold entry_model ledger.old.house (named_of order.now) (view ledger.old shelves.old)) (record { file = file host.old; durable = durable host.old; sent = sent host.old }) (record { file = file host.new; durable = durable host.new; sent = sent host.new }) (view ledger.old shelves.old) (view ledger.new shelves.new) result }
-    ensures tied { StillTied ledger.old.house (record { file = file host.new; durable = durable host.new; sent = sent host.new }) (view ledger.new shelves.new) result }
+    requires { Tied ledger.old.house (record { file = H.file host.old; durable = H.durable host.old; sent = H.sent host.old }) (view ledger.old shelves.old) }
+    ensures step { Stepped ledger.old.house (plan_hold entry_model ledger.old.house (named_of order.now) (view ledger.old shelves.old)) (record { file = H.file host.old; durable = H.durable host.old; sent = H.sent host.old }) (record { file = H.file host.new; durable = H.durable host.new; sent = H.sent host.new }) (view ledger.old shelves.old) (view ledger.new shelves.new) result }
+    ensures tied { StillTied ledger.old.house (record { file = H.file host.new; durable = H.durable host.new; sent = H.sent host.new }) (view ledger.new shelves.new) result }
     ensures house { ledger.new.house ≡ ledger.old.house }
 {
     let yes = Message::Yes(ledger.house(), order.name);

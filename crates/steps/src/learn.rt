@@ -26,7 +26,7 @@ fn note<H: Host>(
     none: &Order,
 ) -> Result<(), Trouble>
     requires { Fits (rec_of «record» none.now) (view ledger.old shelves.old) }
-    ensures step { Noted ledger.old.house (rec_of «record» none.now) (record { file = file host.old; durable = durable host.old; sent = sent host.old }) (record { file = file host.new; durable = durable host.new; sent = sent host.new }) (view ledger.old shelves.old) (view ledger.new shelves.new) result }
+    ensures step { Noted ledger.old.house (rec_of «record» none.now) (record { file = H.file host.old; durable = H.durable host.old; sent = H.sent host.old }) (record { file = H.file host.new; durable = H.durable host.new; sent = H.sent host.new }) (view ledger.old shelves.old) (view ledger.new shelves.new) result }
     ensures house { ledger.new.house ≡ ledger.old.house }
 {
     let Ok(_) = ledger.apply(shelves, record, none) else {
@@ -45,9 +45,9 @@ pub fn learn<H: Host>(
     name: Name,
     yes: bool,
 ) -> Result<(), Trouble>
-    requires { Tied ledger.old.house (record { file = file host.old; durable = durable host.old; sent = sent host.old }) (view ledger.old shelves.old) }
-    ensures step { Stepped ledger.old.house (plan_learn entry_model name yes (view ledger.old shelves.old)) (record { file = file host.old; durable = durable host.old; sent = sent host.old }) (record { file = file host.new; durable = durable host.new; sent = sent host.new }) (view ledger.old shelves.old) (view ledger.new shelves.new) result }
-    ensures tied { StillTied ledger.old.house (record { file = file host.new; durable = durable host.new; sent = sent host.new }) (view ledger.new shelves.new) result }
+    requires { Tied ledger.old.house (record { file = H.file host.old; durable = H.durable host.old; sent = H.sent host.old }) (view ledger.old shelves.old) }
+    ensures step { Stepped ledger.old.house (plan_learn entry_model name yes (view ledger.old shelves.old)) (record { file = H.file host.old; durable = H.durable host.old; sent = H.sent host.old }) (record { file = H.file host.new; durable = H.durable host.new; sent = H.sent host.new }) (view ledger.old shelves.old) (view ledger.new shelves.new) result }
+    ensures tied { StillTied ledger.old.house (record { file = H.file host.new; durable = H.durable host.new; sent = H.sent host.new }) (view ledger.new shelves.new) result }
     ensures house { ledger.new.house ≡ ledger.old.house }
 {
     match ledger.may_learn(shelves, name, yes) {

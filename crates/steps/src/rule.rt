@@ -28,10 +28,10 @@ pub fn rule<H: Host>(
     home: Home,
     name: Name,
 ) -> (Home, Result<(), Trouble>)
-    requires { Tied ledger.old.house (record { file = file host.old; durable = durable host.old; sent = sent host.old }) (view ledger.old shelves.old) }
-    ensures step { Stepped ledger.old.house (out_of (plan_rule entry_model name ledger.old.bytes (memory_of home))) (record { file = file host.old; durable = durable host.old; sent = sent host.old }) (record { file = file host.new; durable = durable host.new; sent = sent host.new }) (view ledger.old shelves.old) (view ledger.new shelves.new) result.1 }
+    requires { Tied ledger.old.house (record { file = H.file host.old; durable = H.durable host.old; sent = H.sent host.old }) (view ledger.old shelves.old) }
+    ensures step { Stepped ledger.old.house (out_of (plan_rule entry_model name ledger.old.bytes (memory_of home))) (record { file = H.file host.old; durable = H.durable host.old; sent = H.sent host.old }) (record { file = H.file host.new; durable = H.durable host.new; sent = H.sent host.new }) (view ledger.old shelves.old) (view ledger.new shelves.new) result.1 }
     ensures memory { Remembers (plan_rule entry_model name ledger.old.bytes (memory_of home)) home result.0 result.1 }
-    ensures tied { StillTied ledger.old.house (record { file = file host.new; durable = durable host.new; sent = sent host.new }) (view ledger.new shelves.new) result.1 }
+    ensures tied { StillTied ledger.old.house (record { file = H.file host.new; durable = H.durable host.new; sent = H.sent host.new }) (view ledger.new shelves.new) result.1 }
     ensures house { ledger.new.house ≡ ledger.old.house }
 {
     let order = match home.may_rule(name) {

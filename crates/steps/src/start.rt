@@ -39,7 +39,7 @@ pub fn come_up<H: Host>(
     house: u8,
     shelves: &mut [u32],
 ) -> Result<Ledger, Trouble>
-    ensures { CameUp houses house (record { file = file host.old; durable = durable host.old; sent = sent host.old }) (record { file = file host.new; durable = durable host.new; sent = sent host.new }) shelves.new result }
+    ensures { CameUp houses house (record { file = H.file host.old; durable = H.durable host.old; sent = H.sent host.old }) (record { file = H.file host.new; durable = H.durable host.new; sent = H.sent host.new }) shelves.new result }
 {
     let mut ledger = match open_log(heap, houses, house, host.log(), shelves) {
         Ok(ledger) => ledger,
