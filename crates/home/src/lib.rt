@@ -1,4 +1,6 @@
 // What a house remembers as the home, that is the coordinator, of orders; a stop loses it.
+#![tactic(auto)]
+
 pub mod find;
 pub mod give_up;
 pub mod memory;

@@ -1,9 +1,8 @@
 -- The bytes of a file determine what opening it answers.
-use Rattle.std.proofs.Common.{◌≡◌, ℕ, ◌+◌, ◌≤◌, Bool, true, false, not, List, [], ◌∷◌, drop, Ok, Err, Result, sym, refl, ap, ◌∙◌, subst, arith}
+use Rattle.std.proofs.Common.{◌≡◌, ℕ, ◌+◌, ◌≤◌, Bool, true, false, not, List, [], ◌∷◌, drop, Ok, Err, sym, refl, ap, ◌∙◌, subst, arith}
 use Rattle.std.proofs.lemmas.Bool.{both_ways, and_parts, and_from, le-ltb}
 use Rattle.protocol.specs.Model.{most_bytes}
 use Rattle.protocol.specs.State.{State, empty_state, apply, replay, lawful, within_limits, all_lawful, all_within, rec_size}
-use Rattle.protocol.specs.Plan.{no_room}
 use Rattle.protocol.proofs.Replays.{state-opened}
 use Rattle.orders.specs.Order.{Rec, entry_model}
 use Rattle.orders.specs.Refusals.{number_of}
@@ -11,9 +10,7 @@ use Rattle.orders.specs.Parse.{got, cut, bad, parse}
 use Rattle.orders.proofs.Files.{Front, none, first, front}
 use Rattle.orders.specs.declared.Refusal.{Refusal}
 use Rattle.ledger.specs.View.{view}
-use Rattle.ledger.specs.Opening.{admitted, is_house, ReadTo, Cause, no_house, no_record, not_next, Opened, SaysFile, OpensOnce}
-use Rattle.ledger.specs.declared.Ledger.{Ledger}
-use Rattle.ledger.specs.declared.Trouble.{Trouble}
+use Rattle.ledger.specs.Opening.{admitted, is_house, ReadTo, Cause, no_house, no_record, not_next, SaysFile, OpensOnce}
 use Rattle.ledger.specs.declared.Trouble.TheVariants.{Refused, NoMemory}
 
 abbrev S : Type 0

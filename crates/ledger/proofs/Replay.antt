@@ -2,7 +2,7 @@
 use Rattle.std.proofs.Common.{◌≡◌, ℕ, ◌+◌, ◌<◌, ◌≤◌, Bool, true, false, not, ◌&&◌, List, [], ◌∷◌, ◌++◌, length, drop, Ok, Err, Result, sym, refl, ap, ◌∙◌, subst, arith}
 use Rattle.std.proofs.lemmas.Bool.{and_parts, and_from, and_left, and_right, lt-ltb}
 use Rattle.protocol.specs.Model.{most_bytes}
-use Rattle.protocol.specs.State.{State, empty_state, apply, replay, opens, lawful, within_limits, all_lawful, all_within, rec_size}
+use Rattle.protocol.specs.State.{State, empty_state, apply, replay, lawful, within_limits, all_lawful, all_within, rec_size}
 use Rattle.orders.specs.Order.{Rec, entry_model}
 use Rattle.protocol.specs.Plan.{no_room}
 use Rattle.orders.specs.Parse.{got, parse}

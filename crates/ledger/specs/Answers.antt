@@ -1,5 +1,5 @@
 -- What the answers of a ledger have the house do. Assumes nothing.
-use Rattle.std.specs.Prelude.{◌≡◌, ℕ, Bool, true, false, cond, List, [], ◌∷◌, Ok, Err, Result}
+use Rattle.std.specs.Prelude.{◌≡◌, ℕ, Bool, true, false, cond, [], ◌∷◌, Ok, Err, Result}
 use Rattle.protocol.specs.declared.Name.{Name}
 use Rattle.protocol.specs.House.{Held, Done, Dropped}
 use Rattle.protocol.specs.Net.{Yes}

@@ -1,4 +1,6 @@
 // What a house's file says, but for the shelves, which stand in a lent slice of words.
+#![tactic(auto)]
+
 ghost use Rattle.std.specs.Prelude.{◌≤◌};
 
 use entries::named::NamedOrder;

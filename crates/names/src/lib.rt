@@ -1,4 +1,6 @@
 // Sets of names, for look-ups that never scan a file.
+#![tactic(auto)]
+
 ghost use Rattle.std.specs.Prelude.{◌≡◌, vec_len};
 
 use protocol::Name;

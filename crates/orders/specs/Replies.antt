@@ -1,5 +1,5 @@
 -- What is written in reply to a message. Assumes nothing.
-use Rattle.std.specs.Prelude.{◌≡◌, ℕ, List, Ok, Err, Result}
+use Rattle.std.specs.Prelude.{◌≡◌, ℕ, List, Err, Result}
 use Rattle.protocol.specs.Net.{Hold, Yes, Told}
 use Rattle.orders.specs.declared.Refusal.{Refusal}
 use Rattle.orders.specs.declared.Refusal.TheVariants.{BadForm}

@@ -1,14 +1,13 @@
 -- The refusals that the worked cases don't meet, and the limits at their edges.
 -- Assumes nothing.
 use Rattle.std.specs.Prelude.{◌≡◌, Bool, true, false, ◌&&◌, not, List, [], ◌∷◌, ◌++◌, ℕ, zero, suc, ◌+◌, nat_eq}
-use Rattle.protocol.specs.declared.Name.{Name}
 use Rattle.protocol.specs.House.{Began, Ruled}
 use Rattle.protocol.specs.Net.{House, start, no_memory}
 use Rattle.protocol.specs.Plan.{Verdict, refused, does, do_submit, do_hold, do_vote, do_rule, do_give_up, do_answer, do_learn, do_sync, restart}
 use Rattle.protocol.specs.Run.{deliver, stop_at}
 use Rattle.orders.specs.declared.Entry.{Entry}
 use Rattle.orders.specs.Order.{Order, Rec, entry_model}
-use Rattle.promise.specs.Case.{Play, Row, pass, name, entry, order, sends, refused_by, submits, holds}
+use Rattle.promise.specs.Case.{Play, Row, pass, name, entry, order, refused_by, submits, holds}
 
 -- the k-th of many orders of house 0 that write in house 1
 abbrev nth : ℕ → Order

@@ -1,4 +1,6 @@
 // The promise of the whole exchange: a function for each group of theorems, whose contract states them.
+#![tactic(auto)]
+
 ghost use Rattle.promise.specs.Cases.{AllRows};
 ghost use Rattle.promise.specs.Crash.{LedgerCodec, LedgerFits, MainStopped, Accepts, Writable, OneStep};
 ghost use Rattle.promise.specs.Limits.{AllRefusals, AllFull};

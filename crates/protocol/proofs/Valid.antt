@@ -1,5 +1,5 @@
 -- Only valid orders are ever asked about, and so only valid orders are ruled.
-use mathlib.Core.Path.{subst, subst⁻¹}
+use mathlib.Core.Path.{subst⁻¹}
 use mathlib.Core.Logic.{inl, inr}
 use mathlib.Core.List.Memᴰ
 use mathlib.Core.List.{List, Memᴰ}

@@ -1,4 +1,6 @@
 // Plays a script from standard input, and prints an answer for each of its lines.
+#![tactic(auto)]
+
 mod lines;
 mod rehearsal;
 

@@ -1,4 +1,6 @@
 // A file read from its front: where its whole records end.
+#![tactic(auto)]
+
 ghost use Rattle.scan.specs.Scan.{Ends};
 
 use orders::Refusal;

@@ -30,11 +30,12 @@ fn order_is_read(rt: HostRuntime) -> Result<(), Fail> {
     let Line::Submit(_, name, order) = read_line(b"submit 0 0 1 2 1 5 3 2 5 2 65541 1") else {
         return Err(Fail::new("no submit"));
     };
+    let (seen, second_key) = (order.reads[0].amount, order.writes[1].key);
     assert_eq!(rt; name.number, 2);
     assert_eq!(rt; order.read_count, 1);
-    assert_eq!(rt; order.reads[0].amount, 3);
+    assert_eq!(rt; seen, 3);
     assert_eq!(rt; order.write_count, 2);
-    assert_eq!(rt; order.writes[1].key, 65541);
+    assert_eq!(rt; second_key, 65541);
     Ok(())
 }
 

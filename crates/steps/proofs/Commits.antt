@@ -1,5 +1,5 @@
 -- A record written into a buffer and appended, and what backs a message once it is synced.
-use Rattle.std.proofs.Common.{◌≡◌, ℕ, ◌+◌, ◌-◌, Bool, true, false, cond, leb, List, ◌++◌, length, take, drop, Ok, Err, Result, sym, ap, ◌∙◌, subst, append-nil, arith, take_all}
+use Rattle.std.proofs.Common.{◌≡◌, ℕ, ◌+◌, ◌-◌, Bool, true, false, cond, leb, List, ◌++◌, length, take, drop, Ok, Err, Result, sym, ap, ◌∙◌, append-nil, arith, take_all}
 use mathlib.Core.Path.{subst⁻¹}
 use lib.Seq.{take-append-add}
 use Rattle.orders.specs.declared.Refusal.{Refusal}

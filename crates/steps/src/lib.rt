@@ -1,4 +1,6 @@
 // The steps of a house over any host: decided, noted, appended, synced, and only then said.
+#![tactic(auto)]
+
 pub mod ask;
 pub mod broken;
 pub mod commit;

@@ -1,4 +1,4 @@
-use Rattle.std.proofs.Common.{◌≡◌, cond, refl, ap, ◌∙◌}
+use Rattle.std.proofs.Common.{refl, ◌∙◌}
 use Rattle.ledger.specs.View.{view}
 use Rattle.ledger.proofs.Replay.{read_none, read-end, read-long, read-wrong, read_fits, read_more}
 use Rattle.ledger.proofs.Ledger.replay.Goals as goal

@@ -1,4 +1,4 @@
-use Rattle.std.proofs.Common.{◌≡◌, true, false, sym, ◌∙◌, arith, le-ltb, lt-ltb, eq-eqb}
+use Rattle.std.proofs.Common.{sym, ◌∙◌, arith, le-ltb, lt-ltb, eq-eqb}
 use Rattle.ledger.specs.View.{view}
 use Rattle.home.specs.Memory.{memory_of}
 use Rattle.steps.proofs.Plans.{no_old, no-over, no_answer}

@@ -1,4 +1,4 @@
-use Rattle.std.proofs.Common.{◌≡◌, true, false, sym, refl}
+use Rattle.std.proofs.Common.{true, false, refl}
 use Rattle.protocol.specs.House.{Done, Dropped}
 use Rattle.protocol.specs.Plan.{plan_learn}
 use Rattle.orders.specs.Order.{entry_model}

@@ -1,9 +1,9 @@
-use Rattle.std.proofs.Common.{◌≡◌, ℕ, true, List, [], ◌∷◌, ◌++◌, take, sym, refl, ap, ◌∙◌}
+use Rattle.std.proofs.Common.{true, [], ◌∷◌, ◌++◌, take, sym, refl, ap, ◌∙◌}
 use mathlib.Core.Path.{subst⁻¹}
 use Rattle.protocol.specs.House.{Ruled}
 use Rattle.protocol.specs.Net.{Told}
-use Rattle.protocol.specs.Plan.{Verdict, refused, Output, Work, plan_rule}
-use Rattle.orders.specs.Order.{Msg, entry_model}
+use Rattle.protocol.specs.Plan.{Verdict, Work, plan_rule}
+use Rattle.orders.specs.Order.{entry_model}
 use Rattle.orders.specs.Refusals.{number_of}
 use Rattle.entries.specs.Named.{named_of}
 use Rattle.ledger.specs.View.{view}
@@ -15,7 +15,7 @@ use Rattle.steps.specs.Hosts.{World}
 use Rattle.protocol.specs.State.{State}
 use Rattle.steps.specs.Stepped.{out_of, output_of}
 use Rattle.steps.specs.Ties.{Tied}
-use Rattle.steps.proofs.Driving.{rule-backed, commit, commit-step, commit-tied}
+use Rattle.steps.proofs.Driving.{rule-backed, commit-step, commit-tied}
 use Rattle.steps.proofs.Plans.{full, fits, out-of, adds_one}
 use Rattle.steps.proofs.rule.rule.Goals as goal
 

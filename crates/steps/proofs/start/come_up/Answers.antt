@@ -1,4 +1,4 @@
-use Rattle.std.proofs.Common.{◌≡◌, ℕ, ap, ◌∙◌}
+use Rattle.std.proofs.Common.{ℕ, ap, ◌∙◌}
 use Rattle.protocol.specs.House.{Began}
 use Rattle.protocol.specs.State.{apply}
 use Rattle.orders.specs.Order.{entry_model}
