@@ -32,7 +32,7 @@ fn run(rt: &HostRuntime) -> anyhow::Result<bool> {
         files.push(read_ledger(rt, &path)?)?;
     }
     if files.is_empty() {
-        return Err(USAGE.into());
+        return Err(anyhow!(USAGE));
     }
     let report = audit(rt.alloc(), files.as_slice());
     if let Report::NoMemory = report {

@@ -74,7 +74,7 @@ fn check_audit(
     let files = vec![in heap; file(rt, heap, first)?, file(rt, heap, second)?]?;
     let mut out = Vec::new(heap);
     write_report(&mut out, &audit(heap, files.as_slice()))?;
-    assert_eq!(rt; out.as_slice(), said.as_bytes());
+    assert_eq!(rt; out.as_slice(), said.as_bytes(), "{first} and {second}");
     Ok(())
 }
 
@@ -96,9 +96,7 @@ fn findings(rt: HostRuntime) -> Result<(), Fail> {
         ("bhd", "h", "refused 3 1\n"),
     ];
     for (first, second, said) in table {
-        check_audit(&rt, rt.alloc(), first, second, said).note(format_args!(
-            "{first} and {second}"
-        ))?;
+        check_audit(&rt, rt.alloc(), first, second, said)?;
     }
     Ok(())
 }

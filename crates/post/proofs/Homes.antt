@@ -1,5 +1,5 @@
 -- A map of places for each home.
-use Rattle.std.proofs.Common.{◌≡◌, ℕ, zero, suc, ◌<◌, Bool, false, ◌&&◌, eqb, List, [], ◌∷◌, map, length, get_or, set, None, Option, sym, refl, ap, ◌∙◌, subst, ⊎_elim, ne_eqb}
+use Rattle.std.proofs.Common.{◌≡◌, ℕ, zero, suc, ◌<◌, Bool, false, ◌&&◌, eqb, List, [], ◌∷◌, map, length, get_or, set, None, Some, Option, sym, refl, ap, ◌∙◌, subst, ⊎_elim, ne_eqb}
 use Rattle.std.proofs.lemmas.Bool.{cases_eq, and_left, and_right}
 use Rattle.std.proofs.lemmas.List.{get_or-map, map-set, get_or-set_same, get_or-set_other, length-map}
 use Rattle.std.specs.List.{AllByRecursion as All}
@@ -7,7 +7,10 @@ use Rattle.protocol.specs.declared.Name.{Name}
 use Rattle.protocol.specs.Model.{same_name}
 use Rattle.post.specs.declared.places.PlaceMap.{PlaceMap}
 use Rattle.post.specs.Places.{place_in, place_in_homes, no_place, or_else, only_if}
-use Rattle.post.proofs.Insertion.{or-none}
+
+pub or-none : (p : Option ℕ) → or_else p None ≡ p
+or-none None = refl
+or-none (Some k) = refl
 
 pub homes_at : (ps : List PlaceMap) (x : PlaceMap) (n : Name) → n.home < length ps → x ≡ get_or ps n.home x → place_in x n ≡ place_in_homes ps n
 homes_at ps x n l e = ap (λ (y : PlaceMap). place_in y n) e ∙ sym (ap (λ (f : Name → Option ℕ). f n) (get_or-map place_in ps n.home x no_place l))

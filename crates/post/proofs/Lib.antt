@@ -1,4 +1,3 @@
-pub mod Insertion
 pub mod Homes
 pub mod Firsts
 pub mod ByHouse

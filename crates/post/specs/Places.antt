@@ -2,13 +2,13 @@
 use Rattle.std.specs.Prelude.{ℕ, Bool, cond, List, map, Some, None, vec_items, Option, slice_index_or}
 use Rattle.std.specs.BTreeMap.{get}
 use Rattle.protocol.specs.declared.Name.{Name}
-use Rattle.names.specs.Names.{names}
+use Rattle.names.specs.Names.{name_cmp}
 use Rattle.post.specs.declared.places.PlaceMap.{PlaceMap}
 use Rattle.post.specs.declared.places.PlaceIndex.{PlaceIndex}
 
 -- the name's place in the map of one home
 abbrev pub place_in : PlaceMap → Name → Option ℕ
-place_in p n = get names p.map n
+place_in p n = get name_cmp p.map n
 
 abbrev pub no_place : Name → Option ℕ
 no_place n = None

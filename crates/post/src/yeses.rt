@@ -41,7 +41,7 @@ impl Yeses {
         ensures ok { is_ok result ≡ true → house < vec_len self.new.houses }
     {
         while self.houses.len() <= house as usize {
-            let names = NameIndex::new(self.houses.allocator())?;
+            let names = NameIndex::new(*self.houses.allocator())?;
             self.houses.push(names)?;
         }
         Ok(())

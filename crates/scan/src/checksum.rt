@@ -69,9 +69,8 @@ fn sum_of(houses: u8, bytes: &[u8]) -> u64
     }
 }
 
-// The sum over the records of the file up to the first that is cut or refused, for callers in C or Rust.
-#[unsafe(no_mangle)]
-pub extern "C" fn scan_checksum(houses: u8, bytes: &[u8]) -> u64
+// The sum over the records of the file up to the first that is cut or refused. `scan_c` has it for callers in C.
+pub fn scan_checksum(houses: u8, bytes: &[u8]) -> u64
     ensures { Sums houses bytes.now result }
 {
     sum_of(houses, bytes)

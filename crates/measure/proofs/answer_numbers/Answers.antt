@@ -6,4 +6,4 @@ loop-number-init c = none_yet _ _ _
 
 pub loop-number-preserved : goal.loop-number-preserved
 loop-number-preserved c =
-    one_more _ _ _ _ c.loop-number.number _ _ _ c.loop-number.invariant c.from-sum.ensures c.answer-number-refused.ensures c.renumbered.ensures
+    one_more _ _ _ _ c.loop-number.number _ _ _ c.loop-number.invariant c.from-sum.ensures c.answer_number-refused.ensures c.renumbered.ensures

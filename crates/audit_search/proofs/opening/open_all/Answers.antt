@@ -9,14 +9,14 @@ loop-house-init c = subst (StandTo 0 (map vec_items c.args.files.now)) (sym c.ne
 
 pub loop-house-preserved : goal.loop-house-preserved
 loop-house-preserved c =
-    stand-more (map vec_items c.args.files.now) c.loop-house.house _ c.as-slice.result.now (files-count c.args.files.now)
-    (file-at c.args.files.now _ c.index-files-house.result _ c.loop-house-test.true c.index-files-house.is c.as-slice.ensures.value) (vec_items c.loop-house.houses) c.loop-house.invariant
+    stand-more (map vec_items c.args.files.now) c.loop-house.house _ c.as_slice.result.now (files-count c.args.files.now)
+    (file-at c.args.files.now _ c.index-files-house.result _ c.loop-house-test.true c.index-files-house.is c.as_slice.ensures.value) (vec_items c.loop-house.houses) c.loop-house.invariant
     c.in-Ok.opened _ c.in-Ok.ensures c.in-Ok-push.ensures.items
 
 pub returns-in-Refused : goal.returns-in-Refused
 returns-in-Refused c =
-    stand-refused (map vec_items c.args.files.now) c.loop-house.house _ c.as-slice.result.now (files-count c.args.files.now)
-    (file-at c.args.files.now _ c.index-files-house.result _ c.loop-house-test.true c.index-files-house.is c.as-slice.ensures.value) (vec_items c.loop-house.houses) c.loop-house.invariant
+    stand-refused (map vec_items c.args.files.now) c.loop-house.house _ c.as_slice.result.now (files-count c.args.files.now)
+    (file-at c.args.files.now _ c.index-files-house.result _ c.loop-house-test.true c.index-files-house.is c.as_slice.ensures.value) (vec_items c.loop-house.houses) c.loop-house.invariant
     (files-below c.args.files.now _ c.loop-house-test.true) c.in-Err.trouble c.in-Refused.why c.in-Refused.is c.in-Err.ensures
 
 pub returns : goal.returns

@@ -5,17 +5,17 @@ use Rattle.audit_search.specs.Audited.{account}
 use Rattle.audit_search.proofs.Walk.{not-whole, left-more, left-found, left_end}
 use Rattle.audit_search.proofs.search.first_in_file.Goals as goal
 
-pub returns-in-default : goal.returns-in-default
-returns-in-default c =
+pub returns-in_default : goal.returns-in_default
+returns-in_default c =
     left_end c.args.count (fault_of c.args.pass (map account c.args.houses.now) c.args.house) c.args.bytes.now _ c.loop-record.invariant
-    (not-whole c.args.count c.args.bytes.now _ c.record-at.result c.record-at.ensures.value c.in-default.not-Whole)
+    (not-whole c.args.count c.args.bytes.now _ c.record_at.result c.record_at.ensures.value c.in_default.not-Whole)
 
-pub returns-then-is-some : goal.returns-then-is-some
-returns-then-is-some c =
+pub returns-then-is_some : goal.returns-then-is_some
+returns-then-is_some c =
     left-found c.args.count (fault_of c.args.pass (map account c.args.houses.now) c.args.house) c.args.bytes.now _ c.loop-record.invariant _ (rec_of c.in-Whole.record c.in-Whole.order)
-    (sym c.in-Whole.ensures.value) c.fault-of-fault.result c.fault-of-fault.ensures (sym c.if-is-some.ensures)
+    (sym c.in-Whole.ensures.value) c.fault_of-fault.result c.fault_of-fault.ensures (sym c.if-is_some.ensures)
 
 pub loop-record-preserved : goal.loop-record-preserved
 loop-record-preserved c =
     left-more c.args.count (fault_of c.args.pass (map account c.args.houses.now) c.args.house) c.args.bytes.now _ c.loop-record.invariant _ (rec_of c.in-Whole.record c.in-Whole.order)
-    (sym c.in-Whole.ensures.value) c.fault-of-fault.result c.fault-of-fault.ensures (sym c.if-is-some.ensures)
+    (sym c.in-Whole.ensures.value) c.fault_of-fault.result c.fault_of-fault.ensures (sym c.if-is_some.ensures)

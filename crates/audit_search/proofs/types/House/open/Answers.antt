@@ -5,11 +5,11 @@ use Rattle.audit_search.specs.Audited.{HouseOpened}
 use Rattle.audit_search.proofs.Stand.{house-opened, house-refused}
 use Rattle.audit_search.proofs.types.House.open.Goals as goal
 
-pub returns-in-err-ledger : goal.returns-in-err-ledger
-returns-in-err-ledger c =
-    let p = err_from_is_err_and c.from-residual.result c.from-residual.ensures.1 in
+pub returns-in_err-ledger : goal.returns-in_err-ledger
+returns-in_err-ledger c =
+    let p = err_from_is_err_and c.from_residual.result c.from_residual.ensures.1 in
     subst (HouseOpened c.args.houses c.args.house c.args.bytes.now) (sym (p.1 ∙ ap (λ x. Err x) p.2))
-    (house-refused c.args.houses c.args.house c.args.bytes.now _ _ c.in-err-ledger.field-0.0 c.in-err-ledger.ensures)
+    (house-refused c.args.houses c.args.house c.args.bytes.now _ _ c.in_err-ledger.field-0.0 c.in_err-ledger.ensures)
 
 pub returns : goal.returns
-returns c = house-opened c.args.houses c.args.house c.args.bytes.now c.as-mut-slice.result.now c.open.new.shelves c.in-ok-ledger.ledger c.in-Ok-done-names.done _ c.in-ok-ledger.ensures c.in-Ok-done-names.ensures (take_at c.open.new.shelves _ c.in-Ok.shelves.len (c.open.auto.shelves ∙ c.as-mut-slice.ensures.len))
+returns c = house-opened c.args.houses c.args.house c.args.bytes.now c.as_mut_slice.result.now c.open.new.shelves c.in_ok-ledger.ledger c.in-Ok-done_names.done _ c.in_ok-ledger.ensures c.in-Ok-done_names.ensures (take_at c.open.new.shelves _ c.in-Ok.shelves.len (c.open.auto.shelves ∙ c.as_mut_slice.ensures.len))

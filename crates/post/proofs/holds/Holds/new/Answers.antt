@@ -3,5 +3,5 @@ use Rattle.post.specs.Places.{place_of}
 use Rattle.post.proofs.Firsts.{indexed-none}
 use Rattle.post.proofs.holds.Holds.new.Goals as goal
 
-pub invariant-of-result : goal.invariant-of-result
-invariant-of-result c = (λ n. indexed-none n (vec_items c.new-2.result) (place_of c.in-ok-first.first n) c.new-2.ensures.items (c.in-ok-first.ensures n), tt)
+pub invariant_of-result : goal.invariant_of-result
+invariant_of-result c = record { indexed = λ n. indexed-none n (vec_items c.new-2.result) (place_of c.in_ok-first.first n) c.new-2.ensures.items (c.in_ok-first.ensures n) }

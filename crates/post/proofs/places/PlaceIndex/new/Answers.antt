@@ -10,7 +10,7 @@ use Rattle.post.proofs.places.PlaceIndex.new.Goals as goal
 pub loop-i-preserved : goal.loop-i-preserved
 loop-i-preserved c = (
   search rules,
-  subst (All (λ (p : PlaceMap). (n : Name) → place_in p n ≡ None)) (sym c.in-ok-push.ensures.items) (All-push (λ (p : PlaceMap). (n : Name) → place_in p n ≡ None) (vec_items c.loop-i.homes) c.new.result c.loop-i.invariant.1 c.new.ensures),
+  subst (All (λ (p : PlaceMap). (n : Name) → place_in p n ≡ None)) (sym c.in_ok-push.ensures.items) (All-push (λ (p : PlaceMap). (n : Name) → place_in p n ≡ None) (vec_items c.loop-i.homes) c.new.result c.loop-i.invariant.1 c.new.ensures),
 )
 
 pub returns : goal.returns

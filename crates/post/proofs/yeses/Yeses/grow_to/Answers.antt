@@ -3,4 +3,4 @@ use Rattle.post.proofs.ByHouse.{said-grown}
 use Rattle.post.proofs.yeses.Yeses.grow_to.Goals as goal
 
 pub loop-self-preserved : goal.loop-self-preserved
-loop-self-preserved c j n = said-grown (vec_items c.loop-self.self.houses) (vec_items c.push.new.self) c.in-ok-names.names c.in-ok-push.ensures.items c.in-ok-names.ensures j n ∙ c.loop-self.invariant j n
+loop-self-preserved c j n = said-grown (vec_items c.loop-self.self.houses) (vec_items c.push.new.self) c.in_ok-names.names c.in_ok-push.ensures.items c.in_ok-names.ensures j n ∙ c.loop-self.invariant j n
