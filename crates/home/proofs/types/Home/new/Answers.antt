@@ -4,6 +4,9 @@ use Rattle.home.specs.Memory.{asking_of, tried_of}
 use Rattle.home.proofs.Marks.{tried-none}
 use Rattle.home.proofs.types.Home.new.Goals as goal
 
+pub invariant_of-result : goal.invariant_of-result
+invariant_of-result c = record { room = c.in_ok-asking.ensures.capacity; marks = c.in_ok-tried.ensures.len }
+
 pub returns : goal.returns
 returns c =
     let a : vec_items c.in_ok-asking.asking ≡ [] = search rules in
