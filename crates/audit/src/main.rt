@@ -1,4 +1,6 @@
 // Audits the ledgers of all houses, whose paths are the arguments, that of house 0 first, and prints what it finds.
+#![tactic(auto)]
+
 mod print;
 #[cfg(test)]
 mod tests;

@@ -1,4 +1,6 @@
 // Whether the ledgers of all houses agree: nothing is done without a ruling, and nothing that was ruled is missing at a house of it.
+#![tactic(auto)]
+
 ghost use Rattle.std.specs.Prelude.{◌≡◌, map, vec_items};
 ghost use Rattle.protocol.specs.Model.{houses_ok};
 ghost use Rattle.audit_search.specs.Audited.{Answered, ReadOnce};

@@ -1,4 +1,6 @@
 // Opening a ledger and answering a hold, under names for C, for the measurement of speed.
+#![tactic(auto)]
+
 ghost use Rattle.std.specs.Prelude.{◌≡◌, Ok};
 ghost use Rattle.protocol.specs.Plan.{plan_hold};
 ghost use Rattle.orders.specs.Order.{entry_model};

@@ -1,4 +1,6 @@
 // Every message that was ever sent, kept so that a look-up never scans.
+#![tactic(auto)]
+
 use holds::Holds;
 use names::NameIndex;
 use yeses::Yeses;

@@ -1,5 +1,5 @@
 -- Readers one after the other, as the code's `?` has them.
-use Rattle.std.proofs.Common.{◌≡◌, ℕ, List, None, Option, sym, refl, ap, ◌∙◌}
+use Rattle.std.proofs.Common.{◌≡◌, ℕ, List, None, Option, ap, ◌∙◌}
 use Rattle.script.specs.Parse.{Got, got, bad, bind, given}
 
 -- a `?` hands on None

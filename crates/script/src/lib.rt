@@ -1,4 +1,6 @@
 // Scripts: one line of bytes read into the command that it is.
+#![tactic(auto)]
+
 ghost use Rattle.std.specs.Prelude.{◌≡◌, ◌≤◌, length};
 
 use orders::{Entry, Order};

@@ -1,4 +1,4 @@
-use Rattle.std.proofs.Common.{length, refl, ◌∙◌, arith}
+use Rattle.std.proofs.Common.{length, ◌∙◌, arith}
 use Rattle.script.proofs.Splitting.{skip-space, past_same, done-is}
 use Rattle.script.proofs.words.word_start.Goals as goal
 

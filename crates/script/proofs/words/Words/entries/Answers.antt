@@ -1,4 +1,4 @@
-use Rattle.std.proofs.Common.{sym, refl, ◌∙◌, arith, length-set}
+use Rattle.std.proofs.Common.{sym, ◌∙◌, arith, length-set}
 use Rattle.std.proofs.lemmas.Bool.{lt-leb, cond-false}
 use Rattle.script.specs.Parse.{counted}
 use Rattle.script.proofs.Chains.{given-none, bad-first, then_next}
