@@ -2,6 +2,8 @@
 #![tactic(auto)]
 
 ghost use Rattle.std.specs.Prelude.{◌≡◌, vec_len};
+ghost use Rattle.std.specs.BTreeSet.{IsOrdered};
+ghost use Rattle.names.specs.Names.{name_cmp};
 
 use protocol::Name;
 use std::collections::BTreeSet;
@@ -13,6 +15,7 @@ pub mod set;
 #[derive(Drop)]
 pub struct NameSet {
     pub(crate) set: BTreeSet<Name>,
+    ghost lawful: { ∥ IsOrdered name_cmp set ∥₁ },
 }
 
 // Names, in one set for each home: names of one home come mostly in rising order, so that a new one goes to the end of its set.
