@@ -15,7 +15,7 @@ struct Answer {
 }
 
 #[link(name = "measure", kind = "static")]
-#[link(name = "rattle_c", kind = "static")]
+#[link(name = "libc_c", kind = "static")]
 unsafe extern "C" {
     fn ledger_open(
         houses: u8,
