@@ -12,14 +12,13 @@ use std::thread;
 
 fn main() -> ExitCode {
     let arguments: Vec<_> = env::args_os().skip(1).collect();
-    let [program, count, seeds @ ..] = arguments.as_slice() else {
+    let [program, seed, count] = arguments.as_slice() else {
         return usage();
     };
-    let seeds: Option<Vec<u64>> = seeds.iter().map(|seed| number(seed)).collect();
-    let (Some(count), Some(seeds)) = (number(count), seeds) else {
+    let (Some(seed), Some(count)) = (number(seed), number(count)) else {
         return usage();
     };
-    match compare_all(program, count, &seeds) {
+    match compare_all(program, seed, count) {
         Ok(tally) => report(&tally),
         Err(error) => {
             println!("{error}");
@@ -29,7 +28,7 @@ fn main() -> ExitCode {
 }
 
 fn usage() -> ExitCode {
-    eprintln!("usage: compare PROGRAM COUNT SEED..");
+    eprintln!("usage: compare PROGRAM SEED COUNT");
     ExitCode::from(2)
 }
 
@@ -50,21 +49,16 @@ fn report(tally: &Tally) -> ExitCode {
     }
 }
 
-/// Compares so many generated scripts of each seed in one run, then each special one in a run of its own.
-fn compare_all(program: &OsStr, count: u64, seeds: &[u64]) -> Result<Tally, String> {
-    let mut tally = Tally::default();
-    for &seed in seeds {
-        let input = generate::many_scripts(seed, count);
-        let compared = compare_run(program, true, &input);
-        let more = compared.map_err(|failure| {
-            let described = describe(&failure, &format!("seed {seed}"));
-            match failure {
-                Failure::Difference(found) => format!("{described}\n{}", script(&found)),
-                Failure::Unreadable(_) => described,
-            }
-        })?;
-        tally.join(&more);
-    }
+/// Compares the generated scripts in one run, then each special one in a run of its own.
+fn compare_all(program: &OsStr, seed: u64, count: u64) -> Result<Tally, String> {
+    let input = generate::many_scripts(seed, count);
+    let mut tally = compare_run(program, true, &input).map_err(|failure| {
+        let described = describe(&failure, &format!("seed {seed}"));
+        match failure {
+            Failure::Difference(found) => format!("{described}\n{}", script(&found)),
+            Failure::Unreadable(_) => described,
+        }
+    })?;
     for special in SPECIALS {
         let input = (special.write)().into_bytes();
         let compared = compare_run(program, false, &input);
