@@ -1,21 +1,17 @@
 -- How many bytes each encoding has. Assumes nothing.
-use Rattle.std.proofs.Common.{◌≡◌, ℕ, ◌+◌, ◌*◌, ◌<◌, Bool, ◌⊎◌, List, [], ◌∷◌, ◌++◌, length, sym, refl, ap, ◌∙◌, inl, inr, arith, length-append, length-take-le}
+use Rattle.std.proofs.Common.{◌≡◌, ◌+◌, ◌*◌, ◌<◌, List, [], ◌∷◌, ◌++◌, length, refl, ◌∙◌, arith, length-append, length-take-le}
 use Rattle.protocol.specs.declared.Name.{Name}
 use Rattle.protocol.specs.House.{Began, Held, Done, Dropped, Ruled}
 use Rattle.orders.specs.declared.Entry.{Entry}
 use Rattle.orders.specs.declared.Order.{Order as Slots}
-use Rattle.orders.specs.declared.Record.{Record}
-use Rattle.orders.specs.declared.Record.TheVariants as code
-use Rattle.orders.specs.declared.Message.{Message}
-use Rattle.orders.specs.declared.Message.TheVariants as post
 use Rattle.orders.specs.Order.{Order, Rec}
-use Rattle.orders.specs.Values.{reads_of, writes_of, order_of, rec_of, msg_of}
-use Rattle.orders.specs.Encode.{name_bytes, entry_bytes, entries_bytes, order_bytes, rec_bytes, msg_bytes}
+use Rattle.orders.specs.Values.{reads_of, writes_of, order_of}
+use Rattle.orders.specs.Encode.{name_bytes, entry_bytes, entries_bytes, order_bytes, rec_bytes}
 use Rattle.orders.specs.Laws.{Sized}
 
-pub length-name : (d : Name) → length (name_bytes d) ≡ 9
+pub length_name : (d : Name) → length (name_bytes d) ≡ 9
 unfolding name_bytes
-length-name d = refl
+length_name d = refl
 
 pub length-entry : (e : Entry) → length (entry_bytes e) ≡ 8
 unfolding entry_bytes
@@ -31,13 +27,13 @@ unfolding order_bytes
 length-order o =
     let es = entries_bytes o.reads in
     let fs = entries_bytes o.writes in
-    length-append (name_bytes o.name) (length o.reads ∷ length o.writes ∷ (es ++ fs)) ∙ omega (arith, length-name o.name, length-append es fs, length-entries o.reads, length-entries o.writes)
+    length-append (name_bytes o.name) (length o.reads ∷ length o.writes ∷ (es ++ fs)) ∙ omega (arith, length_name o.name, length-append es fs, length-entries o.reads, length-entries o.writes)
 
 pub sized : Sized
 sized Began = refl
 sized (Held o) = omega (arith, length-order o)
-sized (Done d) = omega (arith, length-name d)
-sized (Dropped d) = omega (arith, length-name d)
+sized (Done d) = omega (arith, length_name d)
+sized (Dropped d) = omega (arith, length_name d)
 sized (Ruled o) = omega (arith, length-order o)
 
 pub some_byte : (r : Rec) → 0 < length (rec_bytes r)
@@ -55,17 +51,5 @@ length-reads s = length-take-le s.read_count s.reads (omega (arith, s.few.0, s.f
 pub length-writes : (s : Slots) → length (writes_of s) ≡ s.write_count
 length-writes s = length-take-le s.write_count s.writes (omega (arith, s.few.1, s.few.3))
 
-pub length-slots : (d : Name) (s : Slots) → length (order_bytes (order_of d s)) ≡ 11 + 8 * (s.read_count + s.write_count)
-length-slots d s = length-order (order_of d s) ∙ omega (arith, length-reads s, length-writes s)
-
--- the arms of `record_len` and `message_len`
-
-pub len-name : (r : Record) (s : Slots) → ((d : Name) × (r ≡ code.Done d)) ⊎ ((d : Name) × (r ≡ code.Dropped d)) → 10 ≡ length (rec_bytes (rec_of r s))
-unfolding name_bytes
-len-name r s (inl p) = sym (ap (λ x. length (rec_bytes (rec_of x s))) p.1)
-len-name r s (inr p) = sym (ap (λ x. length (rec_bytes (rec_of x s))) p.1)
-
-pub len_short : (m : Message) (s : Slots) → ((h : ℕ) × (d : Name) × (m ≡ post.Yes h d)) ⊎ ((b : Bool) × (d : Name) × (m ≡ post.Told b d)) → 11 ≡ length (msg_bytes (msg_of m s))
-unfolding name_bytes
-len_short m s (inl p) = sym (ap (λ x. length (msg_bytes (msg_of x s))) p.2)
-len_short m s (inr p) = sym (ap (λ x. length (msg_bytes (msg_of x s))) p.2)
+pub length_slots : (d : Name) (s : Slots) → length (order_bytes (order_of d s)) ≡ 11 + 8 * (s.read_count + s.write_count)
+length_slots d s = length-order (order_of d s) ∙ omega (arith, length-reads s, length-writes s)

@@ -16,6 +16,10 @@ Longer q (bad k) y = y ≡ bad k
 abbrev pub Steady : {A : Type 0} → (List ℕ → Got A) → Type 0
 Steady P = (p q : List ℕ) → Longer q (P p) (P (p ++ q))
 
+-- a whole answer, with more bytes left
+pub more-left : {A : Type 0} (P : List ℕ → Got A) → Steady P → (p q rest : List ℕ) (a : A) → P p ≡ got a rest → P (p ++ q) ≡ got a (rest ++ q)
+more-left P h p q rest a e = subst (λ (z : Got _). Longer q z (P (p ++ q))) e (h p q)
+
 byte-steady : Steady byte
 byte-steady [] q = tt
 byte-steady (b ∷ p) q = refl
@@ -51,11 +55,11 @@ name-steady : Steady name
 unfolding name
 name-steady = bind-steady byte _ byte-steady (λ a. bind-steady number _ number-steady (λ b. bind-steady number _ number-steady (λ c p q. refl)))
 
-entry-steady : Steady entry
+pub entry-steady : Steady entry
 unfolding entry
 entry-steady = bind-steady number _ number-steady (λ b. bind-steady number _ number-steady (λ c p q. refl))
 
-entries-steady : (n : ℕ) → Steady (entries n)
+pub entries-steady : (n : ℕ) → Steady (entries n)
 unfolding entries
 entries-steady zero p q = refl
 entries-steady (suc n) p q = bind-steady entry _ entry-steady (λ e. bind-steady (entries n) _ (entries-steady n) (λ es r s. refl)) p q
@@ -115,7 +119,7 @@ parse-steady : (n : ℕ) → Steady (parse n)
 parse-steady n = bind-steady form _ form-steady (λ r. cond-steady (rec_ok n r) _ _ (λ p q. refl) (λ p q. refl))
 
 pub more-behind : MoreBehind
-more-behind n bs rest q r e = subst (λ (z : Got _). Longer q z (parse n (bs ++ q))) e (parse-steady n bs q)
+more-behind n bs rest q r e = more-left (parse n) (parse-steady n) bs q rest r e
 
 pub stays-refused : StaysRefused
 stays-refused n k bs q e = subst (λ (z : Got _). Longer q z (parse n (bs ++ q))) e (parse-steady n bs q)

@@ -1,39 +1,61 @@
 -- What the readers' answers stand for. Assumes nothing.
-use Rattle.std.specs.Prelude.{ℕ, ◌<◌, ◌≤◌, List, drop}
-use Rattle.orders.specs.declared.read.OrderRead.{OrderRead}
-use Rattle.orders.specs.declared.read.OrderRead.TheVariants as part
-use Rattle.orders.specs.declared.read.Read.{Read}
-use Rattle.orders.specs.declared.read.Read.TheVariants.{Whole, Cut, Refused}
-use Rattle.orders.specs.declared.read.MessageRead.{MessageRead}
-use Rattle.orders.specs.declared.read.MessageRead.TheVariants as post
-use Rattle.orders.specs.Order.{Order, Rec}
+use Rattle.std.specs.Prelude.{ℕ, ◌<◌, ◌≤◌, List, drop, Ok, Err, Result}
+use Rattle.protocol.specs.declared.Name.{Name}
+use Rattle.orders.specs.declared.Order.{Order as Slots}
+use Rattle.orders.specs.declared.Record.{Record}
+use Rattle.orders.specs.declared.Message.{Message}
+use Rattle.orders.specs.declared.Refusal.{Refusal}
+use Rattle.orders.specs.declared.read.ReadError.{ReadError}
+use Rattle.orders.specs.declared.read.ReadError.TheVariants.{Cut, Refused}
+use Rattle.orders.specs.declared.input.Input.{Input}
+use Rattle.orders.specs.declared.records.Records.{Records}
+use Rattle.orders.specs.Order.{Order, Rec, Msg}
 use Rattle.orders.specs.Values.{order_of, rec_of, msg_of}
 use Rattle.orders.specs.Refusals.{number_of}
+use Rattle.orders.specs.File.{records}
 use Rattle.orders.specs.Parse.{Got, got, cut, bad, Taken, taken, refused}
 
--- an order read from bs; the bytes behind it are those from `next` on
-abbrev pub order_read : List ℕ → OrderRead → Got Order
-order_read bs (part.Whole d s next) = got (order_of d s) (drop next bs)
-order_read bs part.Cut = cut
-order_read bs (part.Refused f) = bad (number_of f)
+-- the bytes that are not yet read
+abbrev pub left : Input → List ℕ
+left i = i.rest.now
 
--- the same of a record
-abbrev pub record_read : List ℕ → Read → Got Rec
-record_read bs (Whole r s next) = got (rec_of r s) (drop next bs)
-record_read bs Cut = cut
-record_read bs (Refused f) = bad (number_of f)
+-- an error of a reader
+abbrev pub failed : {A : Type 0} → ReadError → Got A
+failed Cut = cut
+failed (Refused f) = bad (number_of f)
+
+-- a reader's answer by what its value stands for, with the bytes left after it
+abbrev pub read : {A B : Type 0} → (A → B) → Result A ReadError → Input → Got B
+read f (Ok a) i = got (f a) (left i)
+read f (Err e) i = failed e
+
+-- what a number, a name or an entry stands for
+abbrev pub same : {A : Type 0} → A → A
+same a = a
+
+abbrev pub ordered : Name × Slots → Order
+ordered p = order_of p.0 p.1
+
+abbrev pub recorded : Record × Slots → Rec
+recorded p = rec_of p.0 p.1
+
+abbrev pub posted : Message × Slots → Msg
+posted p = msg_of p.0 p.1
+
+-- a record read from bs; the bytes behind it are those from the next place on
+abbrev pub record_read : List ℕ → Result (Record × Slots × ℕ) ReadError → Got Rec
+record_read bs (Ok p) = got (rec_of p.0 p.1) (drop p.2 bs)
+record_read bs (Err e) = failed e
 
 -- the next place is further on than `at`, and not past the end
-abbrev pub OrderOn : ℕ → ℕ → OrderRead → Type 0
-OrderOn at len (part.Whole d s next) = (at < next) × (next ≤ len)
-OrderOn at len part.Cut = Unit {0}
-OrderOn at len (part.Refused f) = Unit {0}
+abbrev pub RecordOn : ℕ → ℕ → Result (Record × Slots × ℕ) ReadError → Type 0
+RecordOn at len (Ok p) = (at < p.2) × (p.2 ≤ len)
+RecordOn at len (Err e) = Unit {0}
 
-abbrev pub RecordOn : ℕ → ℕ → Read → Type 0
-RecordOn at len (Whole r s next) = (at < next) × (next ≤ len)
-RecordOn at len Cut = Unit {0}
-RecordOn at len (Refused f) = Unit {0}
+abbrev pub message_read : Result (Message × Slots) Refusal → Taken
+message_read (Ok p) = taken (posted p)
+message_read (Err f) = refused (number_of f)
 
-abbrev pub message_read : MessageRead → Taken
-message_read (post.Whole m s) = taken (msg_of m s)
-message_read (post.Refused f) = refused (number_of f)
+-- the records that are still to come
+abbrev pub to_come : Records → List Rec
+to_come it = records it.houses it.rest.now

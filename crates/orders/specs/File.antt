@@ -1,7 +1,7 @@
 -- A file read from its front, record by record, and the laws of whole files. Assumes nothing.
-use Rattle.std.specs.Prelude.{◌≡◌, ℕ, ◌<◌, true, List, [], ◌∷◌, ◌++◌, length, take, ◌≢◌}
+use Rattle.std.specs.Prelude.{◌≡◌, ℕ, zero, suc, ◌<◌, true, List, [], ◌∷◌, ◌++◌, length, take, ◌≢◌}
 use Rattle.orders.specs.Order.{Rec, rec_ok}
-use Rattle.orders.specs.Parse.{got, cut, parse}
+use Rattle.orders.specs.Parse.{Got, got, cut, bad, parse}
 use Rattle.orders.specs.Encode.{rec_bytes}
 use Rattle.orders.specs.Laws.{Bytes}
 
@@ -13,6 +13,21 @@ pub data Reached (n : ℕ) (bs : List ℕ) : List Rec → List ℕ → Type 0 wh
 -- no further record is read from xs
 abbrev pub Ended : ℕ → List ℕ → Type 0
 Ended n xs = (r : Rec) (rest : List ℕ) → parse n xs ≢ got r rest
+
+-- a record and those that f reads behind it
+abbrev pub then_records : (List ℕ → List Rec) → Got Rec → List Rec
+then_records f (got r rest) = r ∷ f rest
+then_records f cut = []
+then_records f (bad k) = []
+
+-- the first k records of bs, or as many as are read from its front
+unfoldable pub first_records : ℕ → ℕ → List ℕ → List Rec
+first_records n zero bs = []
+first_records n (suc k) bs = then_records (first_records n k) (parse n bs)
+
+-- the records read from the front of bs up to where no further one is read; each takes a byte at least
+unfoldable pub records : ℕ → List ℕ → List Rec
+records n bs = first_records n (length bs) bs
 
 -- the bytes of records, one after the other
 abbrev pub all_bytes : List Rec → List ℕ
@@ -48,3 +63,7 @@ FileOneForm = (n : ℕ) (bs : List ℕ) (rs : List Rec) (xs : List ℕ) → Byte
 abbrev pub FileAppended : Type 0
 FileAppended =
     (n : ℕ) (bs : List ℕ) (rs : List Rec) (r : Rec) → Reached n bs rs [] → rec_ok n r ≡ true → Reached n (bs ++ rec_bytes r) (rs ++ r ∷ []) []
+
+-- those records are what is reached where no further one is read
+abbrev pub FileListed : Type 0
+FileListed = (n : ℕ) (bs : List ℕ) → (xs : List ℕ) × Reached n bs (records n bs) xs × Ended n xs

@@ -1,6 +1,7 @@
 pub mod Order
 pub mod Values
 pub mod Refusals
+pub mod Kind
 pub mod Parse
 pub mod Encode
 pub mod Answers
@@ -8,3 +9,4 @@ pub mod Room
 pub mod Laws
 pub mod File
 pub mod Replies
+pub mod Same

@@ -1,6 +1,8 @@
 -- Orders that read and write entries: when two clash, what they find and leave on the shelves, the limits of their numbers;
 -- and the model of them for which the network is proved. Assumes nothing.
-use Rattle.std.specs.Prelude.{ℕ, ◌+◌, ◌*◌, ◌/◌, ◌%◌, Bool, true, false, cond, not, ◌&&◌, ◌||◌, List, [], ◌∷◌, ◌++◌, length, replicate, fold, ◌==◌, nat_eq, nat_le, nat_lt, slice_index, slice_set}
+use Rattle.std.specs.Prelude.{ℕ, ◌+◌, ◌*◌, ◌/◌, ◌%◌, Bool, true, cond, not, ◌&&◌, ◌||◌, List, [], ◌∷◌, ◌++◌, length, replicate, fold, ◌==◌, nat_eq, nat_le, nat_lt, slice_index, slice_set}
+use Rattle.std.specs.List.{list_any, list_all}
+use Rattle.std.specs.Cmp.Lexicographic.{pointwise}
 use Rattle.protocol.specs.declared.Name.{Name}
 use Rattle.protocol.specs.Model.{Model, same_name, houses_ok, name_ok}
 use Rattle.protocol.specs.House as house
@@ -22,13 +24,11 @@ item_of k = k % 65536
 
 -- some element passes the test
 abbrev pub any_by : {X : Type 0} → (X → Bool) → List X → Bool
-any_by p [] = false
-any_by p (x ∷ xs) = p x || any_by p xs
+any_by = list_any
 
 -- each element passes the test
 abbrev pub all_by : {X : Type 0} → (X → Bool) → List X → Bool
-all_by p [] = true
-all_by p (x ∷ xs) = p x && all_by p xs
+all_by = list_all
 
 -- an entry has this key
 abbrev pub touches : ℕ → List Entry → Bool
@@ -84,10 +84,7 @@ abbrev pub same_entry : Entry → Entry → Bool
 same_entry e f = e.key == f.key && e.amount == f.amount
 
 unfoldable pub same_entries : List Entry → List Entry → Bool
-same_entries [] [] = true
-same_entries [] (f ∷ fs) = false
-same_entries (e ∷ es) [] = false
-same_entries (e ∷ es) (f ∷ fs) = same_entry e f && same_entries es fs
+same_entries = pointwise same_entry
 
 abbrev pub same_order : Order → Order → Bool
 same_order t u = same_name t.name u.name && same_entries t.reads u.reads && same_entries t.writes u.writes

@@ -1,16 +1,36 @@
-// The first byte of each kind of record and message.
-pub const BEGAN: u8 = 1;
+// The first byte of each record and message, its kind.
+ghost use Rattle.orders.specs.Kind.{IsKind};
 
-pub const HELD: u8 = 2;
+use crate::Refusal;
 
-pub const DONE: u8 = 3;
+#[derive(Clone, Copy, PartialEq, Eq)]
+pub enum Kind {
+    Began = 1,
+    Held,
+    Done,
+    Dropped,
+    Ruled,
+    Hold,
+    Yes,
+    Told,
+}
 
-pub const DROPPED: u8 = 4;
+impl TryFrom<u8> for Kind {
+    type Error = Refusal;
 
-pub const RULED: u8 = 5;
+    ghost try_from_gives = { IsKind };
 
-pub const HOLD: u8 = 6;
-
-pub const YES: u8 = 7;
-
-pub const TOLD: u8 = 8;
+    fn try_from(byte: u8) -> Result<Kind, Refusal> {
+        match byte {
+            1 => Ok(Kind::Began),
+            2 => Ok(Kind::Held),
+            3 => Ok(Kind::Done),
+            4 => Ok(Kind::Dropped),
+            5 => Ok(Kind::Ruled),
+            6 => Ok(Kind::Hold),
+            7 => Ok(Kind::Yes),
+            8 => Ok(Kind::Told),
+            _ => Err(Refusal::BadForm),
+        }
+    }
+}

@@ -1,29 +1,33 @@
-// The number of a refusal, as programs print it.
-ghost use Rattle.std.specs.Prelude.{◌≡◌};
+// The number of a refusal; it is what programs print.
+ghost use Rattle.std.specs.Prelude.{◌≡◌, Some, decimal};
 ghost use Rattle.orders.specs.Refusals.{number_of};
 
 use crate::Refusal;
+use std::error::Error;
+use std::fmt;
 
 impl Refusal {
     pub fn number(self) -> u8
         ensures { result ≡ number_of self }
     {
-        match self {
-            Refusal::BadForm => 1,
-            Refusal::OutOfRange => 2,
-            Refusal::BadHistory => 3,
-            Refusal::NotThisStart => 4,
-            Refusal::AlreadyTried => 5,
-            Refusal::AskingFull => 6,
-            Refusal::NotParty => 7,
-            Refusal::HeldBefore => 8,
-            Refusal::Clash => 9,
-            Refusal::NotAsSeen => 10,
-            Refusal::HoldingFull => 11,
-            Refusal::NotPending => 12,
-            Refusal::MissingYes => 13,
-            Refusal::NothingToSay => 14,
-            Refusal::FileFull => 15,
-        }
+        self as u8
     }
 }
+
+impl From<Refusal> for u8 {
+    ghost from_gives = { λ why number. number ≡ number_of why };
+
+    fn from(why: Refusal) -> u8 {
+        why.number()
+    }
+}
+
+impl fmt::Display for Refusal {
+    ghost output = { λ why. Some (decimal (number_of why)) };
+
+    fn fmt<W: fmt::Write>(&self, f: &mut fmt::Formatter<W>) -> fmt::Result {
+        write!(f, "{}", self.number())
+    }
+}
+
+impl Error for Refusal {}
