@@ -1,27 +1,25 @@
-// What the readers answer, in a form that the tests compare: the place behind it, or the refusal's number, 0 for bytes that are cut.
+// What the readers answer, as the tests compare it: the place behind it, or why there is none.
 use crate::whole_end;
-use orders::read::{MessageRead, Read, read_message, record_at};
+use orders::Refusal;
+use orders::read::{ReadError, read_message, record_at};
 
-pub const CUT: u8 = 0;
+// A refusal by 1, one by 2, and bytes that are cut.
+pub const BAD_FORM: Result<usize, ReadError> = Err(ReadError::Refused(Refusal::BadForm));
 
-pub fn of_record(houses: u8, bytes: &[u8]) -> Result<usize, u8> {
-    match record_at(houses, bytes, 0) {
-        Read::Whole(_, _, next) => Ok(next),
-        Read::Cut => Err(CUT),
-        Read::Refused(why) => Err(why.number()),
-    }
+pub const RANGE: Result<usize, ReadError> = Err(ReadError::Refused(Refusal::OutOfRange));
+
+pub const CUT: Result<usize, ReadError> = Err(ReadError::Cut);
+
+pub fn of_record(houses: u8, bytes: &[u8]) -> Result<usize, ReadError> {
+    let (_, _, next) = record_at(houses, bytes, 0)?;
+    Ok(next)
 }
 
-pub fn of_message(houses: u8, bytes: &[u8]) -> Result<usize, u8> {
-    match read_message(houses, bytes) {
-        MessageRead::Whole(_, _) => Ok(bytes.len()),
-        MessageRead::Refused(why) => Err(why.number()),
-    }
+pub fn of_message(houses: u8, bytes: &[u8]) -> Result<usize, ReadError> {
+    read_message(houses, bytes)?;
+    Ok(bytes.len())
 }
 
-pub fn of_file(houses: u8, bytes: &[u8]) -> Result<usize, u8> {
-    match whole_end(houses, bytes) {
-        Ok(at) => Ok(at),
-        Err(why) => Err(why.number()),
-    }
+pub fn of_file(houses: u8, bytes: &[u8]) -> Result<usize, ReadError> {
+    Ok(whole_end(houses, bytes)?)
 }

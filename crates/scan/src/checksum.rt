@@ -1,9 +1,9 @@
 // The sum of all numbers of a file's records, for the measurement of speed: whoever computes it has decoded each of them.
 ghost use Rattle.std.specs.Prelude.{◌≡◌};
 ghost use Rattle.orders.specs.Values.{order_of, rec_of};
-ghost use Rattle.scan.specs.Checksum.{plus, plus_name, plus_entry, plus_entries, plus_order, plus_rec, Sums};
+ghost use Rattle.scan.specs.Checksum.{plus, plus_name, plus_entry, plus_order, plus_rec, Sums};
 
-use orders::read::{Read, record_at};
+use orders::records::Records;
 use orders::{Entry, Order, Record};
 use protocol::Name;
 
@@ -19,30 +19,21 @@ fn add_name(sum: u64, name: Name) -> u64
     add(add(add(sum, u32::from(name.home)), name.start), name.number)
 }
 
-fn add_entry(sum: u64, entry: Entry) -> u64
-    ensures { result ≡ plus_entry sum entry }
+fn add_entry(sum: u64, entry: &Entry) -> u64
+    ensures { result ≡ plus_entry sum entry.now }
 {
     add(add(sum, entry.key), entry.amount)
-}
-
-fn add_entries(sum: u64, entries: &[Entry]) -> u64
-    ensures { result ≡ plus_entries sum entries.now }
-{
-    let mut total = sum;
-    for e in entries {
-        total = add_entry(total, *e);
-    }
-    total
 }
 
 fn add_order(sum: u64, name: Name, order: &Order) -> u64
     ensures { result ≡ plus_order sum (order_of name order.now) }
 {
     let named = add_name(sum, name);
-    let read = add_entries(named, &order.reads[0..order.read_count]);
-    add_entries(read, &order.writes[0..order.write_count])
+    let read = order.reads().iter().fold(named, add_entry);
+    order.writes().iter().fold(read, add_entry)
 }
 
+// 1 to 5 are the bytes of the kinds in a file.
 fn add_record(sum: u64, record: Record, order: &Order) -> u64
     ensures { result ≡ plus_rec sum (rec_of «record» order.now) }
 {
@@ -55,23 +46,9 @@ fn add_record(sum: u64, record: Record, order: &Order) -> u64
     }
 }
 
-fn sum_of(houses: u8, bytes: &[u8]) -> u64
-    ensures { Sums houses bytes.now result }
-{
-    let mut at = 0;
-    let mut sum = 0;
-    loop {
-        let Read::Whole(record, order, next) = record_at(houses, bytes, at) else {
-            return sum;
-        };
-        sum = add_record(sum, record, &order);
-        at = next;
-    }
-}
-
 // The sum over the records of the file up to the first that is cut or refused. `scan_c` has it for callers in C.
 pub fn scan_checksum(houses: u8, bytes: &[u8]) -> u64
     ensures { Sums houses bytes.now result }
 {
-    sum_of(houses, bytes)
+    Records::new(houses, bytes).fold(0, |sum, (record, order)| add_record(sum, record, &order))
 }

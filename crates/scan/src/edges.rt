@@ -1,20 +1,26 @@
 // The edges of the formats: each number at its limit and one past it, counts, lengths, and what is torn at the end of a file.
-use crate::answers::{CUT, of_file, of_message, of_record};
-use orders::write::write_record;
-use orders::{Entry, NO_ENTRIES, Order, Record};
+use crate::answers::{BAD_FORM, CUT, RANGE, of_file, of_message, of_record};
+use orders::read::ReadError;
+use orders::write::write;
+use orders::{Entry, NO_ENTRIES, Order, Record, Refusal};
 use protocol::Name;
 
-const RANGE: Result<usize, u8> = Err(2);
+// The tables name a refusal by its variant; docs/FORMAT.md has its number.
+#[test]
+fn numbers(rt: HostRuntime) {
+    assert_eq!(rt; Refusal::BadForm.number(), 1);
+    assert_eq!(rt; Refusal::OutOfRange.number(), 2);
+}
 
 // What a done record with this name is read as.
-fn of_name(houses: u8, home: u8, start: u32, number: u32) -> Result<usize, u8> {
+fn of_name(houses: u8, home: u8, start: u32, number: u32) -> Result<usize, ReadError> {
     let mut out = [0; 10];
     let name = Name {
         home,
         start,
         number,
     };
-    let _ = write_record(&mut out, Record::Done(name), &NO_ENTRIES);
+    let _ = write(&mut out, Record::Done(name), &NO_ENTRIES);
     of_record(houses, &out)
 }
 
@@ -58,13 +64,13 @@ fn counts(rt: HostRuntime) {
         (16, 0, 140, Ok(140)),
         (0, 16, 140, Ok(140)),
         (16, 16, 268, Ok(268)),
-        (16, 16, 267, Err(CUT)),
-        (17, 0, 276, Err(1)),
-        (0, 17, 276, Err(1)),
-        (17, 0, 11, Err(1)),
-        (16, 17, 12, Err(1)),
-        (16, 17, 11, Err(CUT)),
-        (17, 17, 10, Err(CUT)),
+        (16, 16, 267, CUT),
+        (17, 0, 276, BAD_FORM),
+        (0, 17, 276, BAD_FORM),
+        (17, 0, 11, BAD_FORM),
+        (16, 17, 12, BAD_FORM),
+        (16, 17, 11, CUT),
+        (17, 17, 10, CUT),
     ];
     for (reads, writes, len, answer) in table {
         assert!(rt; len <= 276);
@@ -77,7 +83,7 @@ fn counts(rt: HostRuntime) {
 }
 
 // What a held record is read as that read and writes a shelf of such a key, at the largest amount.
-fn of_keys(read: u32, write: u32) -> Result<usize, u8> {
+fn of_keys(read: u32, written: u32) -> Result<usize, ReadError> {
     let name = Name {
         home: 0,
         start: 1,
@@ -86,11 +92,11 @@ fn of_keys(read: u32, write: u32) -> Result<usize, u8> {
     let order = Order {
         reads: [entry(read); 16],
         read_count: 1,
-        writes: [entry(write); 16],
+        writes: [entry(written); 16],
         write_count: 1,
     };
     let mut out = [0; 28];
-    let _ = write_record(&mut out, Record::Held(name), &order);
+    let _ = write(&mut out, Record::Held(name), &order);
     of_record(2, &out)
 }
 
@@ -127,16 +133,16 @@ fn messages(rt: HostRuntime) {
         ([7, 0, 2, 0, 0, 0, 1, 0, 0, 0, 0], RANGE),
         ([8, 0, 0, 0, 0, 0, 1, 0, 0, 0, 0], Ok(11)),
         ([8, 1, 0, 0, 0, 0, 1, 0, 0, 0, 0], Ok(11)),
-        ([8, 2, 0, 0, 0, 0, 1, 0, 0, 0, 0], Err(1)),
+        ([8, 2, 0, 0, 0, 0, 1, 0, 0, 0, 0], BAD_FORM),
         ([8, 1, 0, 0, 0, 0, 0, 0, 0, 0, 0], RANGE),
-        ([1, 0, 0, 0, 0, 0, 1, 0, 0, 0, 0], Err(1)),
-        ([9, 0, 0, 0, 0, 0, 1, 0, 0, 0, 0], Err(1)),
+        ([1, 0, 0, 0, 0, 0, 1, 0, 0, 0, 0], BAD_FORM),
+        ([9, 0, 0, 0, 0, 0, 1, 0, 0, 0, 0], BAD_FORM),
     ];
     for (bytes, answer) in table {
         assert_eq!(rt; of_message(2, &bytes), answer, "{bytes:?}");
     }
     assert_eq!(rt; of_message(2, &order(6, 16, 16)[0..268]), Ok(268));
-    assert_eq!(rt; of_message(2, &order(6, 17, 0)[0..148]), Err(1));
+    assert_eq!(rt; of_message(2, &order(6, 17, 0)[0..148]), BAD_FORM);
     assert_eq!(rt; of_message(0, &[7, 0, 0, 0, 0, 0, 1, 0, 0, 0, 0]), RANGE);
 }
 
@@ -148,17 +154,17 @@ fn tails(rt: HostRuntime) {
     let range = [1, 3, 9, 0, 0, 0, 1, 0, 0, 0, 0];
     assert_eq!(rt; of_file(4, &[]), Ok(0));
     assert_eq!(rt; of_file(4, &[1, 1, 2]), Ok(2));
-    assert_eq!(rt; of_file(4, &[1, 0]), Err(1), "no kind 0");
-    assert_eq!(rt; of_file(4, &[1, 6]), Err(1), "a message's kind");
+    assert_eq!(rt; of_file(4, &[1, 0]), BAD_FORM, "no kind 0");
+    assert_eq!(rt; of_file(4, &[1, 6]), BAD_FORM, "a message's kind");
     assert_eq!(rt; of_file(4, &many_reads[0..11]), Ok(1));
-    assert_eq!(rt; of_file(4, &many_reads), Err(1));
+    assert_eq!(rt; of_file(4, &many_reads), BAD_FORM);
     assert_eq!(rt; of_file(4, &many_writes[0..12]), Ok(1));
-    assert_eq!(rt; of_file(4, &many_writes), Err(1));
+    assert_eq!(rt; of_file(4, &many_writes), BAD_FORM);
     assert_eq!(rt;
         of_file(4, &range[0..10]),
         Ok(1),
         "the range is looked at in whole records"
     );
-    assert_eq!(rt; of_file(4, &range), Err(2));
-    assert_eq!(rt; of_file(17, &[1]), Err(2));
+    assert_eq!(rt; of_file(4, &range), RANGE);
+    assert_eq!(rt; of_file(17, &[1]), RANGE);
 }

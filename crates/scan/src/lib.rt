@@ -4,7 +4,7 @@
 ghost use Rattle.scan.specs.Scan.{Ends};
 
 use orders::Refusal;
-use orders::read::{Read, record_at};
+use orders::read::{ReadError, record_at};
 
 #[cfg(test)]
 mod answers;
@@ -18,12 +18,13 @@ mod examples;
 pub fn whole_end(houses: u8, bytes: &[u8]) -> Result<usize, Refusal>
     ensures { Ends houses bytes.now result }
 {
+    // Not a walk by Records: that ends in the same way at a cut and at a refusal, and keeps no place.
     let mut at = 0;
     loop {
         match record_at(houses, bytes, at) {
-            Read::Whole(_, _, next) => at = next,
-            Read::Cut => return Ok(at),
-            Read::Refused(why) => return Err(why),
+            Ok((_, _, next)) => at = next,
+            Err(ReadError::Cut) => return Ok(at),
+            Err(ReadError::Refused(why)) => return Err(why),
         }
     }
 }
