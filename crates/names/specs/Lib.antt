@@ -1,3 +1,2 @@
 pub mod Names
-pub mod Sets
 pub mod Index
