@@ -3,4 +3,3 @@
 
 pub mod entry;
 pub mod named;
-pub mod order;
