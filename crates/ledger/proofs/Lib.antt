@@ -1,5 +1,4 @@
-pub mod Scans
-pub mod Searches
+pub mod HeldOrders
 pub mod Sizes
 pub mod Replay
 pub mod Once

@@ -7,12 +7,13 @@ use Rattle.orders.specs.Order.{Rec, entry_model}
 use Rattle.protocol.specs.Plan.{no_room}
 use Rattle.orders.specs.Parse.{got, parse}
 use Rattle.orders.specs.Answers.{record_read}
+use Rattle.orders.specs.declared.Refusal.{Refusal}
 use Rattle.orders.specs.declared.Refusal.TheVariants.{BadHistory}
 use Rattle.orders.specs.declared.Record.{Record}
 use Rattle.orders.specs.declared.Order.{Order as Slots}
-use Rattle.orders.specs.declared.read.Read.{Read}
-use Rattle.orders.specs.declared.read.Read.TheVariants.{Whole, Cut}
-use Rattle.orders.specs.declared.read.Read.TheVariants as read
+use Rattle.orders.specs.declared.read.ReadError.{ReadError}
+use Rattle.orders.specs.declared.read.ReadError.TheVariants.{Cut}
+use Rattle.orders.specs.declared.read.ReadError.TheVariants as read
 use Rattle.orders.specs.File.{Reached, start, next}
 use Rattle.ledger.specs.View.{view, Fits}
 use Rattle.ledger.specs.Opening.{ReadTo, Cause, no_record, not_next, EndOf, Replayed, Opened, is_house}
@@ -57,10 +58,10 @@ module _ (n h : ℕ) (bs : List ℕ) where
   }
 
   -- no whole record comes next
-  pub read-end : (v : S) (x : Read) (a : Result Unit Trouble) → ReadTo n h bs v → record_read bs x ≡ parse n (drop v.bytes bs) → ((r : Record) (s : Slots) (to : ℕ) → x ≡ Whole r s to → ⊥) → EndOf x a → Replayed n h bs v a
-  read-end v (Whole r s to) a p e none end = absurd (none r s to refl)
-  read-end v Cut a p e none end = subst (Replayed n h bs v) (sym end) (p, sym e)
-  read-end v (read.Refused f) a p e none end = subst (Replayed n h bs v) (sym end) (no_record v p (sym e))
+  pub read-end : (v : S) (x : Result (Record × Slots × ℕ) ReadError) (a : Result Unit Trouble) → ReadTo n h bs v → record_read bs x ≡ parse n (drop v.bytes bs) → ((p : Record × Slots × ℕ) → x ≡ Ok p → ⊥) → EndOf x a → Replayed n h bs v a
+  read-end v (Ok w) a p e none end = absurd (none w refl)
+  read-end v (Err Cut) a p e none end = subst (Replayed n h bs v) (sym end) (p, sym e)
+  read-end v (Err (read.Refused f)) a p e none end = subst (Replayed n h bs v) (sym end) (no_record v p (sym e))
 
   -- the record r comes next, read up to the place `to` by a house that is numbered i
   module _ (small : Small bs) (i : ℕ) (same : i ≡ h) (v : S) (p : ReadTo n h bs v) (r : Rec) (to : ℕ) (says : got r (drop to bs) ≡ parse n (drop v.bytes bs)) (on : (v.bytes < to) × (to ≤ length bs)) where
@@ -100,6 +101,10 @@ module _ (n h : ℕ) (bs : List ℕ) where
               (within-push h rs r o before.1 (subst (λ (u : S). within_limits entry_model r u ≡ true) p.state both.1));
           state = q ∙ ap (λ j. apply entry_model j r v) same ∙ ap (apply entry_model h r) p.state ∙ sym (replay-push h rs r o);
         }
+
+-- a file that is refused by f
+pub replay_refused : (n h : ℕ) (bs : List ℕ) (v : S) (x : Trouble) (f : Refusal) → x ≡ Refused f → Cause n h bs f → Replayed n h bs v (Err x)
+replay_refused n h bs v x f e p = subst (λ y. Replayed n h bs v (Err y)) (sym e) p
 
 -- a file that was replayed onto words of our own, which were then copied into those that were lent
 pub replayed-opened : (n h i : ℕ) (bs : List ℕ) (l : Ledger) (words before after : List ℕ) → i ≡ h → l.house ≡ i → after ≡ words → Replayed n i bs (view l words) (Ok tt) → Opened n h bs before after (Ok l)

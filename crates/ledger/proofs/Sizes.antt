@@ -1,4 +1,4 @@
--- A record that was read takes its size from the bytes.
+-- How long a record is: one that was read takes its size from the bytes.
 use Rattle.std.proofs.Common.{◌≡◌, ℕ, suc, ◌+◌, ◌<◌, ◌≤◌, List, [], ◌∷◌, length, get_or, drop, sym, ap, ◌∙◌, subst, arith, length-append, length-drop, get_or-drop, w8, Fits}
 use Rattle.protocol.specs.State.{rec_size}
 use Rattle.orders.specs.Order.{Rec, entry_model}
@@ -6,7 +6,11 @@ use Rattle.orders.specs.Parse.{got, parse}
 use Rattle.orders.specs.Encode.{rec_bytes}
 use Rattle.orders.specs.Laws.{Bytes}
 use Rattle.orders.proofs.OneForm.{one_form}
-use Rattle.orders.proofs.Lengths.{sized}
+use Rattle.orders.proofs.Lengths.{sized, length-reads, length-writes}
+use Rattle.orders.specs.declared.Order.{Order as Slots}
+use Rattle.orders.specs.declared.Record.{Record}
+use Rattle.orders.specs.declared.Record.TheVariants as code
+use Rattle.orders.specs.Values.{rec_of}
 
 -- each element is a byte
 abbrev pub Small : List ℕ → Type 0
@@ -28,3 +32,11 @@ moved n bs at to r s e l m =
     let a = length-drop at bs in
     let b = length-drop to bs in
     omega arith
+
+-- no record is longer than that of an order with as many entries as it may have
+pub size_most : (r : Record) (s : Slots) → rec_size entry_model (rec_of r s) ≤ 268
+size_most code.Began s = omega arith
+size_most (code.Held d) s = omega (arith, length-reads s, length-writes s, s.few.0, s.few.1)
+size_most (code.Done d) s = omega arith
+size_most (code.Dropped d) s = omega arith
+size_most (code.Ruled d) s = omega (arith, length-reads s, length-writes s, s.few.0, s.few.1)

@@ -7,9 +7,11 @@ use Rattle.orders.specs.Order.{Rec, entry_model}
 use Rattle.orders.specs.Refusals.{number_of}
 use Rattle.orders.specs.Parse.{got, cut, bad, parse}
 use Rattle.orders.specs.declared.Refusal.{Refusal}
-use Rattle.orders.specs.declared.read.Read.{Read}
-use Rattle.orders.specs.declared.read.Read.TheVariants.{Whole, Cut}
-use Rattle.orders.specs.declared.read.Read.TheVariants as read
+use Rattle.orders.specs.declared.Order.{Order as Slots}
+use Rattle.orders.specs.declared.Record.{Record}
+use Rattle.orders.specs.declared.read.ReadError.{ReadError}
+use Rattle.orders.specs.declared.read.ReadError.TheVariants.{Cut}
+use Rattle.orders.specs.declared.read.ReadError.TheVariants as read
 use Rattle.ledger.specs.View.{view}
 use Rattle.orders.specs.File.{Reached}
 use Rattle.ledger.specs.declared.Ledger.{Ledger}
@@ -42,10 +44,10 @@ pub data Cause (n h : ℕ) (bs : List ℕ) (f : Refusal) : Type 0 where
   not_next : (v : State entry_model) (r : Rec) (rest : List ℕ) → ReadTo n h bs v → parse n (drop v.bytes bs) ≡ got r rest → admitted h r v ≡ false → number_of f ≡ 3 → Cause n h bs f
 
 -- what the end of a file has opening answer: a cut is an end, and a refusal stays one
-abbrev pub EndOf : Read → Result Unit Trouble → Type 0
-EndOf (Whole r s to) a = Unit {0}
-EndOf Cut a = a ≡ Ok tt
-EndOf (read.Refused f) a = a ≡ Err (Refused f)
+abbrev pub EndOf : Result (Record × Slots × ℕ) ReadError → Result Unit Trouble → Type 0
+EndOf (Ok _) a = Unit {0}
+EndOf (Err Cut) a = a ≡ Ok tt
+EndOf (Err (read.Refused f)) a = a ≡ Err (Refused f)
 
 -- the state after the last whole record, or why not
 abbrev pub Replayed : ℕ → ℕ → List ℕ → State entry_model → Result Unit Trouble → Type 0

@@ -1,20 +1,18 @@
 // Whether a record may come next, and how a hold and a learnt decision are answered.
-ghost use Rattle.std.specs.Prelude.{◌≡◌, ◌&&◌};
+ghost use Rattle.std.specs.Prelude.{◌≡◌, ◌≤◌, ◌&&◌, not};
 ghost use Rattle.protocol.specs.House.{Held};
-ghost use Rattle.protocol.specs.State.{lawful, within_limits};
-ghost use Rattle.protocol.specs.Plan.{plan_hold, plan_new_hold, plan_learn};
+ghost use Rattle.protocol.specs.State.{lawful, within_limits, rec_size};
+ghost use Rattle.protocol.specs.Plan.{plan_hold, plan_new_hold, plan_learn, no_room};
 ghost use Rattle.orders.specs.Order.{entry_model};
 ghost use Rattle.orders.specs.Values.{rec_of};
 ghost use Rattle.entries.specs.Named.{named_of};
 ghost use Rattle.ledger.specs.View.{view};
-ghost use Rattle.ledger.specs.Answers.{admission, HoldGrounds, NewGrounds, learning, LearnGrounds};
+ghost use Rattle.ledger.specs.Answers.{admission, HoldGrounds, new_hold, NewGrounds, learning, LearnGrounds};
 
-use crate::held::*;
 use crate::{Admission, Ledger, MAX_BYTES, MAX_HELD, MAX_STARTS};
 use entries::named::NamedOrder;
-use entries::order::*;
-use names::index::*;
-use orders::{Order, Record, Refusal};
+use orders::encode::Encode;
+use orders::{NO_ENTRIES, Order, Record, Refusal};
 use protocol::Name;
 
 impl Ledger {
@@ -24,15 +22,8 @@ impl Ledger {
     {
         match record {
             Record::Began => self.start < MAX_STARTS,
-            Record::Held(name) => self.admits_held(
-                shelves,
-                &NamedOrder {
-                    name,
-                    order: *order,
-                },
-            ),
-            Record::Done(name) | Record::Dropped(name) => self.start > 0
-                && any_named(name, self.held.as_slice()),
+            Record::Held(name) => self.admits_held(shelves, &NamedOrder::new(name, order)),
+            Record::Done(name) | Record::Dropped(name) => self.start > 0 && self.holds_name(name),
             Record::Ruled(name) => self.start > 0
                 && name.home == self.house
                 && !self.ruled.contains(name),
@@ -46,59 +37,79 @@ impl Ledger {
         self.start > 0
             && order.touches_house(u32::from(self.house))
             && !self.ever.contains(order.name)
-            && !any_clashes(order, self.held.as_slice())
+            && !self.clashes_with(order)
             && order.sees(u32::from(self.house), shelves)
             && self.held.len() < MAX_HELD
     }
 
+    // Whether the file has room for the record.
+    pub fn has_room(&self, record: Record, order: &Order) -> bool
+        ensures { result ≡ not (no_room entry_model (rec_of «record» order.now) self.now.bytes) }
+    {
+        self.bytes + record_size(record, order) <= MAX_BYTES
+    }
+
     // How the house answers a hold: the lowest number wins.
-    pub fn may_hold(&self, shelves: &[u32], order: &NamedOrder) -> Admission
+    pub fn may_hold(&self, shelves: &[u32], order: &NamedOrder) -> Result<Admission, Refusal>
         ensures answer { admission self.now.house (named_of order.now) result ≡ plan_hold entry_model self.now.house (named_of order.now) (view self.now shelves.now) }
         ensures grounds { HoldGrounds (named_of order.now) (view self.now shelves.now) result }
     {
         if !order.touches_house(u32::from(self.house)) {
-            return Admission::Refused(Refusal::NotParty);
+            return Err(Refusal::NotParty);
         }
-        if any_same(order, self.held.as_slice()) {
-            return Admission::Again;
+        if self.is_holding(order) {
+            return Ok(Admission::Again);
         }
-        self.may_hold_new(shelves, order)
+        self.may_hold_new(shelves, order)?;
+        Ok(Admission::Fresh)
     }
 
     // The same of an order that touches this house and is not held back.
-    fn may_hold_new(&self, shelves: &[u32], order: &NamedOrder) -> Admission
-        ensures answer { admission self.now.house (named_of order.now) result ≡ plan_new_hold entry_model self.now.house (named_of order.now) (view self.now shelves.now) }
-        ensures new { NewGrounds (named_of order.now) (view self.now shelves.now) result }
+    #[tactic(auto, unfolding(protocol::specs::Plan::unless))]
+    fn may_hold_new(&self, shelves: &[u32], order: &NamedOrder) -> Result<(), Refusal>
+        ensures answer { new_hold self.now.house (named_of order.now) result ≡ plan_new_hold entry_model self.now.house (named_of order.now) (view self.now shelves.now) }
+        ensures grounds { NewGrounds (named_of order.now) (view self.now shelves.now) result }
     {
         if self.ever.contains(order.name) {
-            return Admission::Refused(Refusal::HeldBefore);
+            return Err(Refusal::HeldBefore);
         }
-        if any_clashes(order, self.held.as_slice()) {
-            return Admission::Refused(Refusal::Clash);
+        if self.clashes_with(order) {
+            return Err(Refusal::Clash);
         }
         if !order.sees(u32::from(self.house), shelves) {
-            return Admission::Refused(Refusal::NotAsSeen);
+            return Err(Refusal::NotAsSeen);
         }
         if self.held.len() >= MAX_HELD {
-            return Admission::Refused(Refusal::HoldingFull);
+            return Err(Refusal::HoldingFull);
         }
-        if self.bytes + order.record_len() > MAX_BYTES {
-            return Admission::Refused(Refusal::FileFull);
-        }
-        Admission::Fresh
-    }
-
-    // How the house answers that the order of that name is done, or is not: the lowest number wins.
-    pub fn may_learn(&self, shelves: &[u32], name: Name, yes: bool) -> Result<(), Refusal>
-        ensures answer { learning name yes result ≡ plan_learn entry_model name yes (view self.now shelves.now) }
-        ensures grounds { LearnGrounds name (view self.now shelves.now) result }
-    {
-        if !any_named(name, self.held.as_slice()) {
-            return Err(Refusal::NotPending);
-        }
-        if self.bytes + 10 > MAX_BYTES {
+        if !self.has_room(Record::Held(order.name), &order.order) {
             return Err(Refusal::FileFull);
         }
         Ok(())
     }
+
+    // How the house answers that the order of that name is done, or is not: the lowest number wins.
+    #[tactic(auto, unfolding(protocol::specs::Plan::unless))]
+    pub fn may_learn(&self, shelves: &[u32], name: Name, yes: bool) -> Result<(), Refusal>
+        ensures answer { learning name yes result ≡ plan_learn entry_model name yes (view self.now shelves.now) }
+        ensures grounds { LearnGrounds name (view self.now shelves.now) result }
+    {
+        if !self.holds_name(name) {
+            return Err(Refusal::NotPending);
+        }
+        // A dropped record is as long as a done one.
+        if !self.has_room(Record::Done(name), &NO_ENTRIES) {
+            return Err(Refusal::FileFull);
+        }
+        Ok(())
+    }
+}
+
+// How many bytes the record has.
+#[tactic(auto, using(orders::proofs::Lengths::sized, crate::proofs::Sizes::size_most))]
+pub(crate) fn record_size(record: Record, order: &Order) -> usize
+    ensures value { result ≡ rec_size entry_model (rec_of «record» order.now) }
+    ensures most { result ≤ 268 }
+{
+    record.encoded_len(order)
 }

@@ -4,7 +4,6 @@ ghost use Rattle.names.specs.Index.{in_index};
 
 use crate::Ledger;
 use entries::named::NamedOrder;
-use names::index::*;
 use protocol::Name;
 
 impl Ledger {

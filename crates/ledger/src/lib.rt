@@ -9,6 +9,7 @@ use orders::Refusal;
 
 pub mod admit;
 pub mod apply;
+mod failure;
 pub mod getters;
 mod held;
 pub mod opening;
@@ -24,6 +25,7 @@ pub const MAX_BYTES: usize = 4194304;
 pub const SHELVES: usize = 4096;
 
 // What follows from the records of a house's file.
+// The shelves are lent to each call and are no part of it: who owns both, as a house of an audit does, could not own a ledger that borrows them.
 #[derive(Drop)]
 pub struct Ledger {
     pub(crate) house: u8,
@@ -40,16 +42,15 @@ pub struct Ledger {
     ghost limits: { (start ≤ 65535) × (bytes ≤ 4194304) },
 }
 
-// A hold that is to be written down, one of an order that is held back already, or a refusal.
-#[derive(Clone, Copy)]
+// A hold that is to be written down, or one of an order that is held back already.
+#[derive(Clone, Copy, Debug, PartialEq, Eq)]
 pub enum Admission {
     Fresh,
     Again,
-    Refused(Refusal),
 }
 
 // Why a file was not opened.
-#[derive(Clone, Copy)]
+#[derive(Clone, Copy, Debug, PartialEq, Eq)]
 pub enum Trouble {
     Refused(Refusal),
     NoMemory,

@@ -1,23 +1,21 @@
 // Opening a file: the ledger and the shelves that its records say.
-ghost use Rattle.std.specs.Prelude.{◌≡◌, true, IfOk};
+ghost use Rattle.std.specs.Prelude.{◌≡◌, true};
 ghost use Rattle.protocol.specs.State.{empty_state};
 ghost use Rattle.orders.specs.Order.{entry_model};
 ghost use Rattle.ledger.specs.View.{view};
 ghost use Rattle.ledger.specs.Opening.{Replayed, Opened, EndOf, is_house, SaysFile, OpensOnce};
 
-use crate::admit::*;
-use crate::apply::*;
 use crate::{Ledger, MAX_BYTES, SHELVES, Trouble};
 use names::NameIndex;
-use names::index::*;
-use orders::Refusal;
 use orders::range::houses_ok;
-use orders::read::{Read, record_at};
-use std::alloc::{AllocError, Global};
+use orders::read::{ReadError, record_at};
+use orders::{Order, Record, Refusal};
+use std::alloc::Global;
 
 impl Ledger {
     // The ledger that the bytes of a file say, with its shelves in the lent words. A file that ends inside a record is taken up to
     // its last whole one, whose end is the ledger's length. The records are applied to words of our own, so that what is refused changes nothing.
+    // Five parameters and no struct: C passes the same five (crate `measure`).
     pub fn open(
         heap: Global,
         houses: u8,
@@ -28,14 +26,12 @@ impl Ledger {
         ensures { Opened houses house bytes.now shelves.old shelves.new result }
     {
         if !is_house(houses, house) {
-            return Err(Trouble::Refused(Refusal::OutOfRange));
+            return Err(Refusal::OutOfRange.into());
         }
         if shelves.len() != SHELVES {
             return Err(Trouble::NoMemory);
         }
-        let Ok(mut ledger) = Ledger::new(heap, house) else {
-            return Err(Trouble::NoMemory);
-        };
+        let mut ledger = Ledger::new(heap, house);
         let mut words = [0; SHELVES];
         ledger.replay(houses, bytes, &mut words)?;
         shelves.copy_from_slice(&words);
@@ -43,19 +39,18 @@ impl Ledger {
     }
 
     // The ledger of a file without records.
-    fn new(heap: Global, house: u8) -> Result<Ledger, AllocError>
-        ensures { IfOk result (λ l. (l.house ≡ house) × (view l (empty_state entry_model).shelves ≡ empty_state entry_model)) }
+    fn new(heap: Global, house: u8) -> Ledger
+        ensures house { result.house ≡ house }
+        ensures empty { view result (empty_state entry_model).shelves ≡ empty_state entry_model }
     {
-        let ever = NameIndex::new(heap)?;
-        let ruled = NameIndex::new(heap)?;
-        Ok(Ledger {
+        Ledger {
             house,
             start: 0,
             held: Vec::new(heap),
-            ever,
-            ruled,
+            ever: NameIndex::new(heap),
+            ruled: NameIndex::new(heap),
             bytes: 0,
-        })
+        }
     }
 
     // Applies the records of the file one after the other, up to its last whole one.
@@ -65,17 +60,16 @@ impl Ledger {
         ensures answer { Replayed houses self.old.house bytes.now (view self.new shelves.new) result }
         ensures house { self.new.house ≡ self.old.house }
     {
+        // Not a walk by Records: a refusal at the end is answered, and the place behind a record is the ledger's length.
         loop {
             let read = record_at(houses, bytes, self.bytes);
-            let Read::Whole(record, order, next) = read else {
+            let Ok((record, order, next)) = read else {
                 return end_of(read);
             };
             if next > MAX_BYTES || !self.admits(shelves, record, &order) {
-                return Err(Trouble::Refused(Refusal::BadHistory));
+                return Err(Refusal::BadHistory.into());
             }
-            let Ok(_) = self.apply(shelves, record, &order) else {
-                return Err(Trouble::NoMemory);
-            };
+            self.apply(shelves, record, &order)?;
         }
     }
 }
@@ -88,12 +82,12 @@ fn is_house(houses: u8, house: u8) -> bool
 }
 
 // What the end of a file means: it is cut, or the bytes there are refused.
-fn end_of(read: Read) -> Result<(), Trouble>
+fn end_of(read: Result<(Record, Order, usize), ReadError>) -> Result<(), Trouble>
     ensures { EndOf read result }
 {
     match read {
-        Read::Refused(why) => Err(Trouble::Refused(why)),
-        _ => Ok(()),
+        Err(ReadError::Refused(why)) => Err(why.into()),
+        Ok(_) | Err(ReadError::Cut) => Ok(()),
     }
 }
 
