@@ -1,32 +1,44 @@
 -- The order of a name among those asked about: found, voted on, and taken out.
-use Rattle.std.proofs.Common.{◌≡◌, ℕ, zero, suc, ◌<◌, Bool, true, false, cond, ◌||◌, T, eqb, List, [], ◌∷◌, map, length, get_or, set, is_some, Some, None, Option as Answer, sym, refl, ap, ◌∙◌, subst}
+use Rattle.std.proofs.Common.{◌≡◌, ℕ, suc, ◌+◌, ◌<◌, Bool, true, false, cond, not, ◌||◌, T, eqb, ltb, List, [], ◌∷◌, map, length, get_or, set, Some, None, sym, refl, ap, ◌∙◌, subst, arith}
 use mathlib.Core.Path.{fun_ext}
 use mathlib.Core.Option.{Option, none, some}
 use Rattle.std.proofs.lemmas.Bool.{or_parts, false≢true}
-use Rattle.std.specs.List.{remove}
+use Rattle.std.proofs.lemmas.Bool.Decides.{nat_tests}
+use Rattle.std.proofs.lemmas.Option.{cond_some}
+use Rattle.std.specs.List.{remove, position, position_or_len}
 use Rattle.protocol.specs.declared.Name.{Name}
 use Rattle.protocol.specs.Model.{same_name}
 use Rattle.protocol.proofs.Basics.{same-eq}
 use Rattle.protocol.specs.Net.{Asking, asked, drop_ask, voted}
 use Rattle.protocol.specs.Plan.{ask_of}
-use Rattle.orders.specs.Order.{any_by, entry_model}
-use Rattle.entries.specs.First.{FirstAt, Found}
+use Rattle.orders.specs.Order.{entry_model}
 use Rattle.entries.specs.Named.{named_of}
-use Rattle.entries.proofs.Searches.{first_any}
-use Rattle.home.specs.declared.types.Asked.{Asked}
+use Rattle.home.specs.declared.asked.Asked.{Asked}
 use Rattle.home.specs.Memory.{asking_of, asked_of}
 use Rattle.home.proofs.Marks.{set-mark}
 
 module _ (d : Name) where
-  pub any-asked : (xs : List Asked) → any_by (asked_of d) xs ≡ asked entry_model d (map asking_of xs)
-  unfolding asked
-  any-asked [] = refl
-  any-asked (x ∷ xs) = ap (λ b. asked_of d x || b) (any-asked xs)
+  -- how many stand before the first order of that name
+  abbrev before : List Asked → ℕ
+  before xs = position_or_len (asked_of d) xs
 
   -- a search says whether the name is asked about
-  pub found-asked : (xs sl : List Asked) (o : Answer ℕ) → sl ≡ xs → Found (asked_of d) sl o → is_some o ≡ asked entry_model d (map asking_of xs)
-  found-asked xs sl None e f = sym f ∙ ap (any_by (asked_of d)) e ∙ any-asked xs
-  found-asked xs sl (Some i) e f = sym (first_any (asked_of d) sl i f.1) ∙ ap (any_by (asked_of d)) e ∙ any-asked xs
+  pub place-asked : (xs : List Asked) → ltb (before xs) (length xs) ≡ asked entry_model d (map asking_of xs)
+  unfolding asked
+  place-asked [] = refl
+  place-asked (x ∷ xs) = by (asked_of d x) (place-asked xs)
+    where
+      by : (b : Bool) {a : Bool} → ltb (before xs) (length xs) ≡ a → ltb (cond (not b) (1 + before xs) 0) (suc (length xs)) ≡ (b || a)
+      by true e = grind (arith, nat_tests)
+      by false e = grind (arith, nat_tests)
+
+  pub place-none : (xs : List Asked) → None ≡ position (asked_of d) xs → asked entry_model d (map asking_of xs) ≡ false
+  place-none xs e = grind (arith, place-asked xs)
+
+  pub place-some : (xs : List Asked) (i : ℕ) → Some i ≡ position (asked_of d) xs → (asked entry_model d (map asking_of xs) ≡ true) × (before xs ≡ i)
+  place-some xs i e =
+      let p = cond_some (ltb (before xs) (length xs)) (before xs) i (sym e) in
+      (sym (place-asked xs) ∙ p.0, p.1)
 
   pub none-asked : (qs : List (Asking entry_model)) → asked entry_model d qs ≡ false → ask_of entry_model d qs ≡ none
   unfolding asked ask_of
@@ -55,19 +67,20 @@ module _ (d : Name) where
       let q = or_parts (same_name d a.order.name) (asked entry_model d rest) e in
       ap (λ b. cond b rest (a ∷ drop_ask entry_model d rest)) q.0 ∙ ap (λ (qs : List (Asking entry_model)). a ∷ qs) (none_dropped rest q.1)
 
-  out-asked : (xs : List Asked) (i : ℕ) (y : Asked) → FirstAt (asked_of d) xs i → y ≡ get_or xs i y → ask_of entry_model d (map asking_of xs) ≡ some (asking_of y)
-  unfolding ask_of FirstAt
-  out-asked [] i y f e = absurd f
-  out-asked (x ∷ xs) zero y f e = ap (λ b. cond b (some (asking_of x)) (ask_of entry_model d (map asking_of xs))) f ∙ ap (λ (z : Asked). some (asking_of z)) (sym e)
-  out-asked (x ∷ xs) (suc i) y f e = ap (λ b. cond b (some (asking_of x)) (ask_of entry_model d (map asking_of xs))) f.0 ∙ out-asked xs i y f.1 e
+  one-more : (n : ℕ) → 1 + n ≡ suc n
+  one-more n = omega arith
 
-  out-dropped : (xs : List Asked) (i : ℕ) → FirstAt (asked_of d) xs i → map asking_of (remove xs i) ≡ drop_ask entry_model d (map asking_of xs)
-  unfolding drop_ask FirstAt
-  out-dropped [] i f = absurd f
-  out-dropped (x ∷ xs) zero f = sym (ap (λ b. cond b (map asking_of xs) (asking_of x ∷ drop_ask entry_model d (map asking_of xs))) f)
-  out-dropped (x ∷ xs) (suc i) f =
-      ap (λ (qs : List (Asking entry_model)). asking_of x ∷ qs) (out-dropped xs i f.1)
-      ∙ sym (ap (λ b. cond b (map asking_of xs) (asking_of x ∷ drop_ask entry_model d (map asking_of xs))) f.0)
+  out-dropped : (xs : List Asked) → map asking_of (remove xs (before xs)) ≡ drop_ask entry_model d (map asking_of xs)
+  unfolding drop_ask
+  out-dropped [] = refl
+  out-dropped (x ∷ xs) = by (asked_of d x) (out-dropped xs)
+    where
+      by : (b : Bool) → map asking_of (remove xs (before xs)) ≡ drop_ask entry_model d (map asking_of xs) → map asking_of (remove (x ∷ xs) (cond (not b) (1 + before xs) 0)) ≡ cond b (map asking_of xs) (asking_of x ∷ drop_ask entry_model d (map asking_of xs))
+      by true k = refl
+      by false k = ap (λ n. map asking_of (remove (x ∷ xs) n)) (one-more (before xs)) ∙ ap (λ (qs : List (Asking entry_model)). asking_of x ∷ qs) k
+
+  pub place-dropped : (xs ys : List Asked) (i : ℕ) → Some i ≡ position (asked_of d) xs → ys ≡ remove xs i → map asking_of ys ≡ drop_ask entry_model d (map asking_of xs)
+  place-dropped xs ys i e r = ap (λ (zs : List Asked). map asking_of zs) r ∙ ap (λ n. map asking_of (remove xs n)) (sym (place-some xs i e).1) ∙ out-dropped xs
 
   -- the order with the yes of one more house
   abbrev with-mark : ℕ → Asked → Asking entry_model
@@ -79,28 +92,21 @@ module _ (d : Name) where
     yes = (fun_ext (λ k. ap (λ (marks : List Bool). get_or marks k false) e ∙ set-mark x.yes j k l)) i;
   }
 
-  in-voted : (j : ℕ) (xs : List Asked) (i : ℕ) (x y : Asked) → FirstAt (asked_of d) xs i → x ≡ get_or xs i x → j < length x.yes → y.order ≡ x.order → y.yes ≡ set x.yes j true →
-      map asking_of (set xs i y) ≡ voted entry_model j d (map asking_of xs)
-  unfolding voted FirstAt
-  in-voted j [] i x y f e l o s = absurd f
-  in-voted j (z ∷ xs) zero x y f e l o s =
-      (λ t. with-yes j x y l o s t ∷ map asking_of xs)
-      ∙ ap (λ (w : Asked). with-mark j w ∷ map asking_of xs) e
-      ∙ sym (ap (λ b. cond b (with-mark j z ∷ map asking_of xs) (asking_of z ∷ voted entry_model j d (map asking_of xs))) f)
-  in-voted j (z ∷ xs) (suc i) x y f e l o s =
-      ap (λ (qs : List (Asking entry_model)). asking_of z ∷ qs) (in-voted j xs i x y f.1 e l o s)
-      ∙ sym (ap (λ b. cond b (with-mark j z ∷ map asking_of xs) (asking_of z ∷ voted entry_model j d (map asking_of xs))) f.0)
+  -- a house's yes is noted at the first order of that name
+  module _ (j : ℕ) (x y : Asked) (l : j < length x.yes) (o : y.order ≡ x.order) (s : y.yes ≡ set x.yes j true) where
+    in-voted : (xs : List Asked) → x ≡ get_or xs (before xs) x → map asking_of (set xs (before xs) y) ≡ voted entry_model j d (map asking_of xs)
+    unfolding voted
+    in-voted [] e = refl
+    in-voted (z ∷ xs) e = by (asked_of d z) e (in-voted xs)
+      where
+        by : (b : Bool) → x ≡ get_or (z ∷ xs) (cond (not b) (1 + before xs) 0) x → (x ≡ get_or xs (before xs) x → map asking_of (set xs (before xs) y) ≡ voted entry_model j d (map asking_of xs)) →
+            map asking_of (set (z ∷ xs) (cond (not b) (1 + before xs) 0) y) ≡ cond b (with-mark j z ∷ map asking_of xs) (asking_of z ∷ voted entry_model j d (map asking_of xs))
+        by true e k = (λ t. with-yes j x y l o s t ∷ map asking_of xs) ∙ ap (λ (w : Asked). with-mark j w ∷ map asking_of xs) e
+        by false e k =
+            ap (λ n. map asking_of (set (z ∷ xs) n y)) (one-more (before xs))
+            ∙ ap (λ (qs : List (Asking entry_model)). asking_of z ∷ qs) (k (e ∙ ap (λ n. get_or (z ∷ xs) n x) (one-more (before xs))))
 
-  -- a search found the order at i in a copy sl of the list
-  module _ (xs sl : List Asked) (i : ℕ) (same : sl ≡ xs) (f : FirstAt (asked_of d) sl i) where
-    at : FirstAt (asked_of d) xs i
-    at = subst (λ zs. FirstAt (asked_of d) zs i) same f
-
-    pub first-asked : (y : Asked) → y ≡ get_or xs i y → ask_of entry_model d (map asking_of xs) ≡ some (asking_of y)
-    first-asked y e = out-asked xs i y at e
-
-    pub first-dropped : (ys : List Asked) → ys ≡ remove xs i → map asking_of ys ≡ drop_ask entry_model d (map asking_of xs)
-    first-dropped ys e = ap (λ (zs : List Asked). map asking_of zs) e ∙ out-dropped xs i at
-
-    pub first-voted : (j : ℕ) (x y : Asked) → x ≡ get_or xs i x → j < length x.yes → y.order ≡ x.order → y.yes ≡ set x.yes j true → map asking_of (set xs i y) ≡ voted entry_model j d (map asking_of xs)
-    first-voted j x y e l o s = in-voted j xs i x y at e l o s
+    pub place-voted : (xs : List Asked) (i : ℕ) → Some i ≡ position (asked_of d) xs → x ≡ get_or xs i x → map asking_of (set xs i y) ≡ voted entry_model j d (map asking_of xs)
+    place-voted xs i e g =
+        let n = (place-some xs i e).1 in
+        ap (λ k. map asking_of (set xs k y)) (sym n) ∙ in-voted xs (g ∙ ap (λ k. get_or xs k x) (sym n))

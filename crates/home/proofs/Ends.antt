@@ -1,6 +1,5 @@
 -- How a step ends: refused or accepted, as planned.
-use Rattle.std.proofs.Common.{◌≡◌, ℕ, Bool, true, false, not, ◌||◌, eqb, ltb, leb, List, [], ◌∷◌, ◌++◌, length, Ok, Err, sym, refl, ap, ◌∙◌}
-use Rattle.std.proofs.lemmas.Bool.{and_from}
+use Rattle.std.proofs.Common.{◌≡◌, ℕ, Bool, true, false, not, ◌&&◌, ◌||◌, eqb, ltb, leb, List, [], ◌∷◌, ◌++◌, length, Ok, Err, sym, refl, ap, ◌∙◌}
 use Rattle.protocol.specs.declared.Name.{Name}
 use Rattle.protocol.specs.Model.{same_name}
 use Rattle.protocol.specs.Net.{Asking, Memory, Hold, Told, nobody, asked, voted}
@@ -8,7 +7,7 @@ use Rattle.protocol.specs.Plan.{Output, Work, Verdict, refused, does, unless, sp
 use Rattle.orders.specs.declared.Refusal.{Refusal}
 use Rattle.orders.specs.Order.{Order, entry_model}
 use Rattle.orders.specs.Refusals.{number_of}
-use Rattle.home.specs.declared.types.Home.{Home}
+use Rattle.home.specs.declared.memory.Home.{Home}
 use Rattle.home.specs.Memory.{memory_of}
 use Rattle.home.specs.Verdicts.{in_range, memory_after, stop_asking, Ended}
 use Rattle.home.proofs.Asks.{none-asked, some-asked}
@@ -27,15 +26,15 @@ keeps-tried tried e = λ i. record { asking = e i; tried = tried }
 leaves : (out : Output entry_model) (m k : Memory entry_model) → m.asking ≡ k.asking → m.tried ≡ k.tried → ◌≡◌ {A = Verdict (Work entry_model)} (does (record { out = out; memory = m })) (does (record { out = out; memory = k }))
 leaves out m k a t = λ i. does (record { out = out; memory = record { asking = a i; tried = t i } })
 
-pub submits : (i s : ℕ) (t : Order) (m k : Memory entry_model) → leb t.name.number 65535 ≡ true → eqb t.name.home i ≡ true → eqb t.name.start s ≡ true → m.tried t.name ≡ false → leb 64 (length m.asking) ≡ false →
+pub submits : (i s : ℕ) (t : Order) (m k : Memory entry_model) → leb t.name.number 65535 ≡ true → (eqb t.name.home i && eqb t.name.start s) ≡ true → m.tried t.name ≡ false → leb 64 (length m.asking) ≡ false →
     k.asking ≡ m.asking ++ (record { order = t; yes = nobody entry_model } ∷ []) → k.tried ≡ (λ d. same_name d t.name || m.tried d) →
     does (record { out = speak entry_model (Hold t ∷ []); memory = k }) ≡ in_range (leb t.name.number 65535) (plan_submit entry_model i t s m)
 unfolding unless
-submits i s t m k ok home start fresh room a b =
+submits i s t m k ok own fresh room a b =
     let asks : Memory entry_model = record { asking = m.asking ++ (record { order = t; yes = nobody entry_model } ∷ []); tried = λ d. same_name d t.name || m.tried d } in
     let out : Output entry_model = speak entry_model (Hold t ∷ []) in
     leaves out k asks a b
-    ∙ (λ z. in_range (sym ok z) (unless ((4, not (sym (and_from _ _ home start) z)) ∷ (5, sym fresh z) ∷ (6, sym room z) ∷ []) (record { out = out; memory = asks })))
+    ∙ (λ z. in_range (sym ok z) (unless ((4, not (sym own z)) ∷ (5, sym fresh z) ∷ (6, sym room z) ∷ []) (record { out = out; memory = asks })))
 
 pub votes : (j : ℕ) (d : Name) (m k : Memory entry_model) → ltb j 16 ≡ true → asked entry_model d m.asking ≡ true → k.asking ≡ voted entry_model j d m.asking → k.tried ≡ m.tried →
     does (record { out = speak entry_model []; memory = k }) ≡ in_range (ltb j 16) (plan_vote entry_model j d m)

@@ -1,9 +1,11 @@
 -- Rulings: the memory's part and the file's part make up the plan; which order is next.
-use Rattle.std.proofs.Common.{◌≡◌, ℕ, ◌+◌, ◌<◌, ◌≤◌, Bool, true, false, cond, not, ◌&&◌, ◌||◌, T, List, [], ◌∷◌, ◌++◌, map, length, get_or, drop, is_some, Some, None, Option as Answer, sym, refl, ap, ◌∙◌, subst, ⊎_elim}
+use Rattle.std.proofs.Common.{◌≡◌, ℕ, Bool, true, false, cond, not, ◌&&◌, ◌||◌, T, List, [], ◌∷◌, ◌++◌, map, is_some, is_ok, Ok, Err, Result, Some, None, MatchOption, Option as Answer, sym, refl, ap, ◌∙◌, subst, ⊎_elim}
 use mathlib.Core.Bool.{and_assoc}
 use mathlib.Core.Option.{Option, none, some}
 use Rattle.std.proofs.lemmas.Bool.{true≢false, false≢true, cases_Bool}
-use Rattle.std.proofs.lemmas.List.{at_drop_more, at_drop_all}
+use Rattle.std.proofs.lemmas.Option.{none-some, same_Some}
+use Rattle.std.specs.List.{find}
+use Rattle.std.specs.Option.{option_map}
 use Rattle.protocol.proofs.Basics.{same-eq}
 use Rattle.protocol.specs.declared.Name.{Name}
 use Rattle.protocol.specs.Model.{same_name}
@@ -11,14 +13,15 @@ use Rattle.protocol.specs.House.{Ruled}
 use Rattle.protocol.specs.Net.{Asking, Memory, asked}
 use Rattle.protocol.specs.Plan.{Verdict, refused, does, unless, plan_rule, plan_rule_of, ask_of, all_said, all_yes, no_room}
 use Rattle.orders.specs.declared.Entry.{Entry}
-use Rattle.orders.specs.Order.{any_by, houses_of, entry_model, Order}
-use Rattle.entries.specs.First.{FirstAt}
+use Rattle.orders.specs.Order.{houses_of, entry_model, Order}
 use Rattle.entries.specs.Named.{named_of}
-use Rattle.home.specs.declared.types.Asked.{Asked}
+use Rattle.orders.specs.declared.Refusal.{Refusal}
+use Rattle.entries.specs.declared.named.NamedOrder.{NamedOrder}
+use Rattle.home.specs.declared.asked.Asked.{Asked}
 use Rattle.home.specs.Memory.{asking_of, asked_of}
-use Rattle.home.specs.Rulings.{rulable, ruled_work, ruled_by, accepted, may_rule, next_rulable}
+use Rattle.home.specs.Rulings.{ruling, rulable, ruled_work, ruled_by, accepted, may_rule, next_rulable}
 use Rattle.home.specs.Verdicts.{stop_asking}
-use Rattle.home.proofs.Asks.{none-asked, first-asked, any-asked}
+use Rattle.home.proofs.Asks.{none-asked}
 
 -- the plan of a ruling is the memory's part, and then the file's
 rule-of : (o : Option (Asking entry_model)) (bytes : ℕ) (m : Memory entry_model) → plan_rule_of entry_model o bytes m ≡ ruled_by (rulable o) bytes m
@@ -68,28 +71,53 @@ said-both y rs ws b c r w p q =
     ∙ (λ t. all_said entry_model (houses_of (r t)) (asking_of y).yes && all_said entry_model (houses_of (w t)) (asking_of y).yes)
     ∙ sym (said-append (houses_of (named_of y.order).reads) (houses_of (named_of y.order).writes) (asking_of y).yes)
 
-pub rule-none : (d : Name) (xs sl : List Asked) → sl ≡ xs → any_by (asked_of d) sl ≡ false → refused 12 ≡ rulable (ask_of entry_model d (map asking_of xs))
-rule-none d xs sl a e = sym (ap rulable (none-asked d (map asking_of xs) (sym (any-asked d xs) ∙ ap (any_by (asked_of d)) (sym a) ∙ e)))
+-- what is said of the first order of a name, if there is one
+abbrev said_of : Answer Asked → Verdict Order
+said_of None = refused 12
+said_of (Some y) = cond (all_yes entry_model (asking_of y)) (does (named_of y.order)) (refused 13)
 
--- the order is found, and this is said of its houses
-pub rule-some : (d : Name) (xs sl : List Asked) (i : ℕ) (y : Asked) (b : Bool) → sl ≡ xs → FirstAt (asked_of d) sl i → y ≡ get_or xs i y → b ≡ all_yes entry_model (asking_of y) →
-    cond b (does (named_of y.order)) (refused 13) ≡ rulable (ask_of entry_model d (map asking_of xs))
-rule-some d xs sl i y b a f e p =
-    ap (λ z. cond z (does (named_of y.order)) (refused 13)) p
-    ∙ sym (ap rulable (first-asked d xs sl i a f y e))
+module _ (d : Name) where
+  rule-found : (xs : List Asked) → said_of (find (asked_of d) xs) ≡ rulable (ask_of entry_model d (map asking_of xs))
+  unfolding ask_of
+  rule-found [] = refl
+  rule-found (x ∷ xs) = by (asked_of d x) (rule-found xs)
+    where
+      by : (b : Bool) → said_of (find (asked_of d) xs) ≡ rulable (ask_of entry_model d (map asking_of xs)) → said_of (cond b (Some x) (find (asked_of d) xs)) ≡ rulable (cond b (some (asking_of x)) (ask_of entry_model d (map asking_of xs)))
+      by true k = refl
+      by false k = k
+
+  pub rule-none : (xs : List Asked) → None ≡ find (asked_of d) xs → refused 12 ≡ rulable (ask_of entry_model d (map asking_of xs))
+  rule-none xs e = ap said_of e ∙ rule-found xs
+
+  pub rule-some : (xs : List Asked) (y : Asked) (b : Bool) → Some y ≡ find (asked_of d) xs → b ≡ all_yes entry_model (asking_of y) →
+      cond b (does (named_of y.order)) (refused 13) ≡ rulable (ask_of entry_model d (map asking_of xs))
+  rule-some xs y b e p = ap (λ z. cond z (does (named_of y.order)) (refused 13)) p ∙ ap said_of e ∙ rule-found xs
+
+-- the name of an order asked about
+abbrev pub name_of : Asked → Name
+name_of a = a.order.name
+
+pub accepted-ok : (r : Result NamedOrder Refusal) → is_ok r ≡ accepted (ruling r)
+accepted-ok (Ok k) = refl
+accepted-ok (Err f) = refl
 
 module _ (qs : List (Asking entry_model)) where
-  -- one step of the search for the next order that may be ruled
-  pub at_next : (xs : List Asked) (i : ℕ) (y : Asked) (b : Bool) (r : Answer Name) → i < length xs → next_rulable qs (map asking_of (drop i xs)) ≡ r → y ≡ get_or xs i y → may_rule qs y.order.name ≡ b →
-      cond b (Some y.order.name) (next_rulable qs (map asking_of (drop (i + 1) xs))) ≡ r
-  at_next xs i y b r l h e t =
-      ap (λ b. cond b (Some y.order.name) (next_rulable qs (map asking_of (drop (i + 1) xs)))) (sym t)
-      ∙ ap (λ (z : Asked). next_rulable qs (map asking_of (z ∷ drop (i + 1) xs))) e
-      ∙ sym (at_drop_more (λ ys. next_rulable qs (map asking_of ys)) xs i y l)
-      ∙ h
+  next-names : (xs : List Asked) → find (may_rule qs) (map name_of xs) ≡ next_rulable qs (map asking_of xs)
+  next-names [] = refl
+  next-names (x ∷ xs) = ap (cond (may_rule qs (name_of x)) (Some (name_of x))) (next-names xs)
 
-  pub next-end : (xs : List Asked) (i : ℕ) (r : Answer Name) → length xs ≤ i → next_rulable qs (map asking_of (drop i xs)) ≡ r → None ≡ r
-  next-end xs i r l h = sym (at_drop_all (λ ys. next_rulable qs (map asking_of ys)) xs i l) ∙ h
+  -- what a search of their names answers
+  pub next-found : (xs : List Asked) (r : Answer Name) → option_map (λ d. d) r ≡ find (may_rule qs) (map name_of xs) → r ≡ next_rulable qs (map asking_of xs)
+  next-found xs None e = e ∙ next-names xs
+  next-found xs (Some d) e = e ∙ next-names xs
+
+  may-next : (rest : List (Asking entry_model)) (d : Name) → next_rulable qs rest ≡ Some d → may_rule qs d ≡ true
+  may-next [] d e = absurd (none-some d e)
+  may-next (a ∷ rest) d e = by (may_rule qs a.order.name) refl e (may-next rest d)
+    where
+      by : (b : Bool) → may_rule qs a.order.name ≡ b → cond b (Some a.order.name) (next_rulable qs rest) ≡ Some d → (next_rulable qs rest ≡ Some d → may_rule qs d ≡ true) → may_rule qs d ≡ true
+      by true m e k = ap (may_rule qs) (sym (same_Some _ _ e)) ∙ m
+      by false m e k = k e
 
   none-next : (rest : List (Asking entry_model)) (d : Name) → next_rulable qs rest ≡ None → asked entry_model d rest ≡ true → may_rule qs d ≡ false
   unfolding asked
@@ -103,5 +131,9 @@ module _ (qs : List (Asking entry_model)) where
       by false false m s e t k = k e t
 
   -- where there is no next order, none may be ruled
-  pub none-may : next_rulable qs qs ≡ None → (d : Name) → may_rule qs d ≡ false
+  none-may : next_rulable qs qs ≡ None → (d : Name) → may_rule qs d ≡ false
   none-may e d = ⊎_elim (none-next qs d e) (λ f. ap (λ o. accepted (rulable o)) (none-asked d qs f)) (cases_Bool (asked entry_model d qs))
+
+  pub next-cases : (r : Answer Name) → r ≡ next_rulable qs qs → MatchOption r ((d : Name) → may_rule qs d ≡ false) (λ d. may_rule qs d ≡ true)
+  next-cases None e = none-may (sym e)
+  next-cases (Some d) e = may-next qs d (sym e)

@@ -6,8 +6,8 @@ use Rattle.protocol.specs.Net.{Asking, Memory}
 use Rattle.orders.specs.declared.Entry.{Entry}
 use Rattle.orders.specs.Order.{entry_model, house_of}
 use Rattle.entries.specs.Named.{named_of}
-use Rattle.home.specs.declared.types.Asked.{Asked}
-use Rattle.home.specs.declared.types.Home.{Home}
+use Rattle.home.specs.declared.asked.Asked.{Asked}
+use Rattle.home.specs.declared.memory.Home.{Home}
 
 -- an order asked about: the houses whose mark is set have said yes
 abbrev pub asking_of : Asked → Asking entry_model

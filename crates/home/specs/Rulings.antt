@@ -1,5 +1,5 @@
 -- Whether an order may be ruled. Assumes nothing.
-use Rattle.std.specs.Prelude.{ℕ, Bool, true, false, cond, List, [], ◌∷◌, Some, None, Option as Answer}
+use Rattle.std.specs.Prelude.{ℕ, Bool, true, false, cond, List, [], ◌∷◌, Some, None, Option as Answer, Ok, Err, Result}
 use Rattle.std.proofs.Math.Option.{Option, none, some}
 use Rattle.protocol.specs.declared.Name.{Name}
 use Rattle.protocol.specs.House.{Ruled}
@@ -8,8 +8,8 @@ use Rattle.protocol.specs.Plan.{Verdict, refused, does, Work, unless, all_yes, a
 use Rattle.orders.specs.Order.{Order, entry_model}
 use Rattle.orders.specs.Refusals.{number_of}
 use Rattle.entries.specs.Named.{named_of}
-use Rattle.home.specs.declared.types.Ruling.{Ruling}
-use Rattle.home.specs.declared.types.Ruling.TheVariants.{May, Refused}
+use Rattle.orders.specs.declared.Refusal.{Refusal}
+use Rattle.entries.specs.declared.named.NamedOrder.{NamedOrder}
 use Rattle.home.specs.Verdicts.{stop_asking}
 
 -- the memory's part of a ruling: the order is asked about, and every house of it has said yes
@@ -27,9 +27,9 @@ ruled_by (refused k) bytes m = refused k
 ruled_by (does t) bytes m = unless ((15, no_room entry_model (Ruled t) bytes) ∷ []) (ruled_work t m)
 
 -- what the code's answer stands for
-abbrev pub ruling : Ruling → Verdict Order
-ruling (May k) = does (named_of k)
-ruling (Refused f) = refused (number_of f)
+abbrev pub ruling : Result NamedOrder Refusal → Verdict Order
+ruling (Ok k) = does (named_of k)
+ruling (Err f) = refused (number_of f)
 
 -- not refused
 abbrev pub accepted : {X : Type 0} → Verdict X → Bool

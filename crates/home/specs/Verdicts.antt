@@ -6,7 +6,7 @@ use Rattle.protocol.specs.Plan.{Output, Work, Verdict, refused, does, keep_askin
 use Rattle.orders.specs.declared.Refusal.{Refusal}
 use Rattle.orders.specs.Order.{entry_model}
 use Rattle.orders.specs.Refusals.{number_of}
-use Rattle.home.specs.declared.types.Home.{Home}
+use Rattle.home.specs.declared.memory.Home.{Home}
 use Rattle.home.specs.Memory.{memory_of}
 
 -- a number out of range is refused by 2, before any other cause

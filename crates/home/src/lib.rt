@@ -1,10 +1,17 @@
 // What a house remembers as the home, that is the coordinator, of orders; a stop loses it.
 #![tactic(auto)]
 
-pub mod find;
-pub mod give_up;
+pub use asked::Asked;
+pub use memory::Home;
+
+pub mod asked;
 pub mod memory;
-pub mod ruling;
-pub mod submit;
-pub mod types;
-pub mod vote;
+
+// How many houses there are at most; a house's number is below.
+pub const HOUSES: usize = 16;
+
+// How many orders a home asks about at most.
+pub const MOST_ASKED: usize = 64;
+
+// How many numbers a start has; a name's number is below.
+pub const NUMBERS: usize = 65536;
