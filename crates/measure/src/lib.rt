@@ -13,13 +13,14 @@ use entries::named::NamedOrder;
 use ledger::admit::*;
 use ledger::getters::*;
 use ledger::opening::*;
-use ledger::{Admission, Ledger, Trouble};
+use ledger::{Ledger, Trouble};
 use orders::Message;
-use orders::read::{MessageRead, read_message};
+use orders::read::read_message;
 use protocol::Name;
 use std::alloc::Global;
 
 // What a ledger says of itself, or the number by which its file is refused, 255 for want of memory.
+// Not a Result: it is read in C.
 #[repr(C)]
 #[derive(Clone, Copy)]
 pub struct Summary {
@@ -58,7 +59,7 @@ pub extern "C" fn ledger_open(
             held: ledger.held().len(),
             bytes: ledger.bytes(),
         },
-        Err(Trouble::Refused(why)) => refusal(why.number()),
+        Err(Trouble::Refused(why)) => refusal(why.into()),
         Err(Trouble::NoMemory) => refusal(255),
     }
 }
@@ -69,11 +70,10 @@ fn renumbered(order: &NamedOrder, number: u32) -> NamedOrder
 {
     NamedOrder {
         name: Name {
-            home: order.name.home,
-            start: order.name.start,
             number,
+            ..order.name
         },
-        order: order.order,
+        ..*order
     }
 }
 
@@ -82,9 +82,8 @@ fn answer_number(ledger: &Ledger, shelves: &[u32], order: &NamedOrder) -> u8
     ensures { result ≡ number_in (plan_hold entry_model ledger.now.house (named_of order.now) (view ledger.now shelves.now)) }
 {
     match ledger.may_hold(shelves, order) {
-        Admission::Fresh => 0,
-        Admission::Again => 0,
-        Admission::Refused(why) => why.number(),
+        Ok(_) => 0,
+        Err(why) => why.into(),
     }
 }
 
@@ -104,14 +103,10 @@ fn answer_numbers(ledger: &Ledger, shelves: &[u32], order: &NamedOrder, times: u
 fn message_answers(houses: u8, ledger: &Ledger, shelves: &[u32], message: &[u8], times: u32) -> u64
     ensures { result ≡ answers_of (message_in houses message.now) (Ok ledger.now) shelves.now times }
 {
-    let MessageRead::Whole(read, order) = read_message(houses, message) else {
+    let Ok((Message::Hold(name), order)) = read_message(houses, message) else {
         return u64::MAX;
     };
-    match read {
-        Message::Hold(name) => answer_numbers(ledger, shelves, &NamedOrder { name, order }, times),
-        Message::Yes(_, _) => u64::MAX,
-        Message::Told(_, _) => u64::MAX,
-    }
+    answer_numbers(ledger, shelves, &NamedOrder { name, order }, times)
 }
 
 // Opens the bytes of a file, and answers the hold that the message is under each number below `times`.
