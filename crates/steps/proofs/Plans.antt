@@ -1,24 +1,27 @@
 -- What the steps' tests say of the plans, over plain variables.
-use Rattle.std.proofs.Common.{◌≡◌, ℕ, ◌+◌, ◌<◌, ◌≤◌, Bool, true, false, cond, not, ◌&&◌, ◌||◌, eqb, ltb, List, [], ◌∷◌, ◌++◌, length, take, Ok, Err, Result, sym, refl, ap, ◌∙◌, subst, append-nil, arith, ltb→lt, lt→ltb, take_all}
+use Rattle.std.proofs.Common.{◌≡◌, ℕ, ◌<◌, Bool, true, false, cond, not, ◌&&◌, ◌||◌, eqb, ltb, List, [], ◌∷◌, ◌++◌, length, take, Ok, Err, Result, sym, refl, ap, ◌∙◌, subst, append-nil, arith, take_all}
 use mathlib.Core.Path.{subst⁻¹}
 use mathlib.Core.Bool.{or-true}
 use Rattle.protocol.specs.declared.Name.{Name}
-use Rattle.protocol.specs.Model.{most_bytes}
-use Rattle.protocol.specs.House.{Held, Done, Dropped, Ruled, is_held, is_ruled, ever_held, ruled}
+use Rattle.protocol.specs.House.{Done, Dropped, is_held, is_ruled, ever_held, ruled}
 use Rattle.protocol.specs.Net.{Memory, Told, asked}
-use Rattle.protocol.specs.State.{State, rec_size}
-use Rattle.protocol.specs.Plan.{Verdict, refused, does, unless, Output, Work, speak, no_room, plan_answer}
-use Rattle.protocol.proofs.Basics.{is_true, is_false}
-use Rattle.orders.specs.Order.{Order, Rec, Msg, entry_model}
+use Rattle.protocol.specs.State.{State}
+use Rattle.protocol.specs.Plan.{Work, Verdict, refused, does, unless, Output, speak, plan_answer}
+use Rattle.orders.specs.Order.{Rec, Msg, entry_model}
 use Rattle.orders.specs.Encode.{rec_bytes}
 use Rattle.orders.specs.File.{all_bytes}
+use Rattle.ledger.specs.View.{Fits}
+use Rattle.ledger.specs.Answers.{learning, LearnGrounds}
 use Rattle.steps.specs.declared.broken.Broken.{Broken}
 use Rattle.steps.specs.declared.broken.Trouble.{Trouble}
 use Rattle.steps.specs.declared.broken.Trouble.TheVariants.{Refused, NoMemory, Down}
-use Rattle.steps.specs.Hosts.{World, appended, synced, performed, Syncs}
-use Rattle.steps.specs.Stepped.{Performs, Stepped, is_done, Noted, Answered, output_of, out_of}
+use Rattle.steps.specs.Hosts.{World, Backed, on_disk, appended, synced, performed, Syncs}
+use Rattle.orders.specs.Refusals.{number_of}
+use Rattle.orders.specs.declared.Refusal.{Refusal}
+use Rattle.home.specs.Verdicts.{verdict_of}
+use Rattle.steps.specs.Stepped.{Says, Speaks, out_of, Performs, Stepped, is_done, Noted, Answered, output_of}
 use Rattle.steps.specs.Ties.{Tied, StillTied, SyncTied}
-use Rattle.steps.proofs.Driving.{note, note_step, note-tied}
+use Rattle.steps.proofs.Driving.{ruled-backed, note, note_step, note-tied}
 
 -- ANSWERS
 
@@ -69,26 +72,45 @@ noted-tied i r x y v u (Err (Refused f)) nh nr q n = absurd n
 noted-tied i r x y v u (Err NoMemory) nh nr q n = subst⁻¹ (λ (w : World). Tied i w u) n.0 (subst⁻¹ (λ (z : State entry_model). Tied i x z) n.1 q)
 noted-tied i r x y v u (Err Down) nh nr q n = tt
 
--- the record of a decision
-pub learnt : (d : Name) (b c : Bool) (p : Verdict (Output entry_model)) → b ≡ c → does (note (cond b (Done d) (Dropped d))) ≡ p → does (note (cond c (Done d) (Dropped d))) ≡ p
-learnt d b c p e q = ap (λ (z : Bool). does (note (cond z (Done d) (Dropped d)))) (sym e) ∙ q
+-- the record of what was told neither holds nor rules
+learnt-unheld : (d e : Name) (b : Bool) → is_held entry_model e (cond b (Done d) (Dropped d)) ≡ false
+learnt-unheld d e true = refl
+learnt-unheld d e false = refl
+
+learnt-unruled : (d e : Name) (b : Bool) → is_ruled entry_model e (cond b (Done d) (Dropped d)) ≡ false
+learnt-unruled d e true = refl
+learnt-unruled d e false = refl
+
+pub learnt-fits : (d : Name) (b : Bool) (r : Rec) (v : State entry_model) → r ≡ cond b (Done d) (Dropped d) → LearnGrounds d v (Ok tt) → Fits r v
+learnt-fits d true r v e g = subst⁻¹ (λ (z : Rec). Fits z v) e g.0
+learnt-fits d false r v e g = subst⁻¹ (λ (z : Rec). Fits z v) e g.1
+
+-- a told decision that was noted
+pub learnt-step : (i : ℕ) (d : Name) (b : Bool) (r : Rec) (p : Verdict (Output entry_model)) (x y : World) (v u : State entry_model) (a : Result (Unit {0}) Trouble) →
+    r ≡ cond b (Done d) (Dropped d) → learning d b (Ok tt) ≡ p → Noted i r x y v u a → Stepped i p x y v u a
+learnt-step i d b r p x y v u a e q n = noted_step i p r x y v u a (ap (λ (z : Rec). does (note z)) e ∙ q) n
+
+pub learnt-tied : (i : ℕ) (d : Name) (b : Bool) (r : Rec) (x y : World) (v u : State entry_model) (a : Result (Unit {0}) Trouble) → r ≡ cond b (Done d) (Dropped d) → Tied i x v → Noted i r x y v u a → StillTied i y u a
+learnt-tied i d b r x y v u a e t n =
+    noted-tied i r x y v u a (λ d'. ap (λ (z : Rec). is_held entry_model d' z) e ∙ learnt-unheld d d' b) (λ d'. ap (λ (z : Rec). is_ruled entry_model d' z) e ∙ learnt-unruled d d' b) t n
 
 -- RULING
 
-pub full : (t : Order) (bytes len size : ℕ) → bytes ≡ len → size ≡ rec_size entry_model (Held t) → most_bytes < len + size → no_room entry_model (Ruled t) bytes ≡ true
-full t bytes len size e s l = is_true _ (lt→ltb most_bytes (bytes + rec_size entry_model (Ruled t)) (omega (arith, e, s)))
+-- a test that fails, of what doesn't hold
+pub turned : (b c : Bool) → b ≡ not c → c ≡ not b
+turned b true e = sym (ap not e)
+turned b false e = sym (ap not e)
 
-pub fits : (t : Order) (bytes len size : ℕ) → bytes ≡ len → size ≡ rec_size entry_model (Held t) → len + size ≤ most_bytes → no_room entry_model (Ruled t) bytes ≡ false
-fits t bytes len size e s l = is_false _ (λ k. omega (arith, ltb→lt most_bytes (bytes + rec_size entry_model (Ruled t)) k, e, s, l))
+-- what a home answers is backed by its disk
+pub answer-backed : (i : ℕ) (w : World) (d : Name) (p : Verdict (Output entry_model)) (v : State entry_model) (b : Bool) → Tied i w v → Answered d p v (Ok b) → Backed (Told d b) (on_disk w)
+answer-backed i w d p v true t a = ruled-backed i w v d t a.1
+answer-backed i w d p v false t a = tt
 
--- what the plan puts out
-pub out-of : (p : Verdict (Work entry_model)) (w : Work entry_model) → does w ≡ p → does w.out ≡ out_of p
-out-of p w e = ap (λ (q : Verdict (Work entry_model)). out_of q) e
-
--- a yes is of a name that is ruled
-pub told-ruled : (d : Name) (p : Verdict (Output entry_model)) (v : State entry_model) (b : Bool) → b ≡ true → Answered d p v (Ok b) → v.ruled d ≡ true
-told-ruled d p v true e a = a.1
-told-ruled d p v false e a = let z : ◌≡◌ {A = ℕ} 0 1 = cc in absurd (omega arith)
+-- what was decided, and said or passed on
+pub said-speaks : (m : Msg) (k : Memory entry_model) (d : Result (Unit {0}) Refusal) (p : Verdict (Work entry_model)) (x y : World) (r : Result (Unit {0}) Trouble) → verdict_of (speak entry_model (m ∷ [])) k d ≡ p → Says m d x y r → Speaks (out_of p) x y r
+said-speaks m k (Ok u) p x y r e s = subst (λ (q : Verdict (Work entry_model)). Speaks (out_of q) x y r) e s
+said-speaks m k (Err f) p x y r e s =
+    subst (λ (q : Verdict (Work entry_model)). Speaks (out_of q) x y r) e (subst⁻¹ (λ (a : Result (Unit {0}) Trouble). Speaks (refused (number_of f)) x y a) s.1 (refl, s.0))
 
 -- SYNCING
 

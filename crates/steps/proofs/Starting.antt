@@ -8,11 +8,8 @@ use Rattle.orders.specs.Order.{Rec, entry_model}
 use Rattle.orders.specs.Parse.{cut, parse}
 use Rattle.orders.specs.Encode.{rec_bytes}
 use Rattle.orders.specs.File.{all_bytes}
-use Rattle.orders.specs.declared.Refusal.{Refusal}
 use Rattle.orders.proofs.Files.{file-one-form}
-use Rattle.ledger.specs.Opening.{ReadTo, Cause, Opened}
-use Rattle.ledger.specs.declared.Trouble.{Trouble as LedgerTrouble}
-use Rattle.ledger.specs.declared.Trouble.TheVariants as opening
+use Rattle.ledger.specs.Opening.{ReadTo, Cause}
 use Rattle.ledger.proofs.Sizes.{Small, small_bytes}
 use Rattle.ledger.proofs.Once.{says-file}
 use Rattle.steps.specs.declared.broken.Trouble.{Trouble}
@@ -31,9 +28,6 @@ holds_read n i bs v s p e =
     let form = file-one-form n bs p.records (drop v.bytes bs) (small_bytes bs s) p.read in
     let size : length (all_bytes p.records) ≡ v.bytes = omega (arith, ap length form, length-append (all_bytes p.records) (drop v.bytes bs), length-drop v.bytes bs, p.within) in
     record { records = p.records; bytes = take-front (all_bytes p.records) (drop v.bytes bs) bs v.bytes form size; end = e; opened = p.accepted; state = says-file n i bs v p }
-
-pub refused-log : (n i : ℕ) (bs before after : List ℕ) (w : LedgerTrouble) (f : Refusal) → w ≡ opening.Refused f → Opened n i bs before after (Err w) → (after ≡ before) × Cause n i bs f
-refused-log n i bs before after w f e o = subst (λ (z : LedgerTrouble). Opened n i bs before after (Err z)) e o
 
 -- a log that was not opened leaves the house down and the host as it was
 pub down : (n i : ℕ) (bs before after : List ℕ) (x : World) (w : Trouble) → bs ≡ x.file → OpenedLog n i bs before after (Err w) → CameUp n i x x after (Err w)

@@ -1,3 +1,4 @@
+pub mod Troubles
 pub mod Hosts
 pub mod Stepped
 pub mod Ties

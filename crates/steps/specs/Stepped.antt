@@ -4,12 +4,16 @@ use Rattle.protocol.specs.declared.Name.{Name}
 use Rattle.protocol.specs.Net as net
 use Rattle.protocol.specs.State.{State, apply, replay}
 use Rattle.protocol.specs.Plan.{Verdict, refused, does, Output, Work, speak}
-use Rattle.orders.specs.Order.{Rec, entry_model}
+use Rattle.orders.specs.Order.{Rec, Msg, entry_model}
 use Rattle.orders.specs.Encode.{rec_bytes}
 use Rattle.orders.specs.declared.Refusal.{Refusal}
-use Rattle.home.specs.declared.types.Home.{Home}
+use Rattle.home.specs.declared.memory.Home.{Home}
 use Rattle.home.specs.Memory.{memory_of}
 use Rattle.home.specs.Verdicts.{memory_after}
+use Rattle.home.specs.Rulings.{ruled_work}
+use Rattle.entries.specs.Named.{named_of}
+use Rattle.entries.specs.declared.named.NamedOrder.{NamedOrder}
+use Rattle.protocol.specs.Net.{Memory}
 use Rattle.orders.specs.Refusals.{number_of}
 use Rattle.steps.specs.declared.broken.Broken.{Broken}
 use Rattle.steps.specs.declared.broken.Trouble.{Trouble}
@@ -50,12 +54,22 @@ Noted i r x y v u (Err (Refused f)) = ⊥
 Noted i r x y v u (Err NoMemory) = (y ≡ x) × (u ≡ v)
 Noted i r x y v u (Err Down) = y.sent ≡ x.sent
 
+-- what a home answers to a ruling: the order that is then written down and told of, or why it isn't ruled
+abbrev pub Granted : Verdict (Work entry_model) → Memory entry_model → Result NamedOrder Refusal → Type 0
+Granted p m (Ok k) = p ≡ does (ruled_work (named_of k) m)
+Granted p m (Err f) = p ≡ refused (number_of f)
+
 -- a step that leaves the file as it is
 abbrev pub Speaks : Verdict (Output entry_model) → World → World → Result (Unit {0}) Trouble → Type 0
 Speaks p x y (Ok _) = (is_done p ≡ true) × (y ≡ performed (output_of p) x)
 Speaks p x y (Err (Refused f)) = (p ≡ refused (number_of f)) × (y ≡ x)
 Speaks p x y (Err NoMemory) = ⊥
 Speaks p x y (Err Down) = (k : ℕ) × (y.sent ≡ x.sent ++ take k (output_of p).sends)
+
+-- what was decided is said, or it is passed on why nothing is
+abbrev pub Says : Msg → Result (Unit {0}) Refusal → World → World → Result (Unit {0}) Trouble → Type 0
+Says m (Ok _) x y r = Speaks (does (speak entry_model (m ∷ []))) x y r
+Says m (Err f) x y r = (y ≡ x) × (r ≡ Err (Refused f))
 
 -- the home's memory after a step: the plan's where it is done, as it was where it isn't; a house whose host failed has none
 abbrev pub Remembers : Verdict (Work entry_model) → Home → Home → Result (Unit {0}) Trouble → Type 0

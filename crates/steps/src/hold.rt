@@ -9,11 +9,10 @@ ghost use Rattle.steps.specs.Stepped.{Stepped};
 ghost use Rattle.steps.specs.Ties.{Tied, StillTied};
 
 use crate::broken::Trouble;
-use crate::commit::commit_and_send;
+use crate::commit::note_and_commit;
 use crate::host::Host;
 use entries::named::NamedOrder;
 use ledger::admit::*;
-use ledger::apply::*;
 use ledger::getters::*;
 use ledger::{Admission, Ledger};
 use orders::{Message, Record};
@@ -24,29 +23,17 @@ pub fn hold<H: Host>(
     shelves: &mut [u32],
     order: &NamedOrder,
 ) -> Result<(), Trouble>
-    requires { Tied ledger.old.house (record { file = H.file host.old; durable = H.durable host.old; sent = H.sent host.old }) (view ledger.old shelves.old) }
-    ensures step { Stepped ledger.old.house (plan_hold entry_model ledger.old.house (named_of order.now) (view ledger.old shelves.old)) (record { file = H.file host.old; durable = H.durable host.old; sent = H.sent host.old }) (record { file = H.file host.new; durable = H.durable host.new; sent = H.sent host.new }) (view ledger.old shelves.old) (view ledger.new shelves.new) result }
-    ensures tied { StillTied ledger.old.house (record { file = H.file host.new; durable = H.durable host.new; sent = H.sent host.new }) (view ledger.new shelves.new) result }
+    requires { Tied ledger.old.house (H.world host.old) (view ledger.old shelves.old) }
+    ensures step { Stepped ledger.old.house (plan_hold entry_model ledger.old.house (named_of order.now) (view ledger.old shelves.old)) (H.world host.old) (H.world host.new) (view ledger.old shelves.old) (view ledger.new shelves.new) result }
+    ensures tied { StillTied ledger.old.house (H.world host.new) (view ledger.new shelves.new) result }
     ensures house { ledger.new.house ≡ ledger.old.house }
 {
     let yes = Message::Yes(ledger.house(), order.name);
-    match ledger.may_hold(shelves, order) {
-        Admission::Refused(why) => Err(Trouble::Refused(why)),
-        Admission::Again => {
-            let Ok(_) = host.send(yes, &order.order) else {
-                return Err(Trouble::Down);
-            };
-            Ok(())
-        }
+    match ledger.may_hold(shelves, order)? {
+        Admission::Again => Ok(host.send(yes, &order.order)?),
         Admission::Fresh => {
             let held = Record::Held(order.name);
-            let Ok(_) = ledger.apply(shelves, held, &order.order) else {
-                return Err(Trouble::NoMemory);
-            };
-            let Ok(_) = commit_and_send(host, held, yes, &order.order) else {
-                return Err(Trouble::Down);
-            };
-            Ok(())
+            note_and_commit(host, ledger, shelves, held, yes, &order.order)
         }
     }
 }

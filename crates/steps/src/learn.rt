@@ -1,8 +1,10 @@
 // A decision that was told: the order is done here, or dropped. It is noted and appended, and synced with what comes later.
-ghost use Rattle.std.specs.Prelude.{◌≡◌};
+ghost use Rattle.std.specs.Prelude.{◌≡◌, if◌then◌else◌};
+ghost use Rattle.protocol.specs.House.{Done, Dropped};
 ghost use Rattle.protocol.specs.Plan.{plan_learn};
 ghost use Rattle.orders.specs.Order.{entry_model};
 ghost use Rattle.orders.specs.Values.{rec_of};
+ghost use Rattle.orders.specs.declared.Order.{Order};
 ghost use Rattle.ledger.specs.View.{view, Fits};
 ghost use Rattle.steps.specs.Hosts.{World};
 ghost use Rattle.steps.specs.Stepped.{Noted, Stepped};
@@ -26,16 +28,23 @@ fn note<H: Host>(
     none: &Order,
 ) -> Result<(), Trouble>
     requires { Fits (rec_of «record» none.now) (view ledger.old shelves.old) }
-    ensures step { Noted ledger.old.house (rec_of «record» none.now) (record { file = H.file host.old; durable = H.durable host.old; sent = H.sent host.old }) (record { file = H.file host.new; durable = H.durable host.new; sent = H.sent host.new }) (view ledger.old shelves.old) (view ledger.new shelves.new) result }
+    ensures step { Noted ledger.old.house (rec_of «record» none.now) (H.world host.old) (H.world host.new) (view ledger.old shelves.old) (view ledger.new shelves.new) result }
     ensures house { ledger.new.house ≡ ledger.old.house }
 {
-    let Ok(_) = ledger.apply(shelves, record, none) else {
-        return Err(Trouble::NoMemory);
-    };
-    let Ok(_) = append_record(host, record, none) else {
-        return Err(Trouble::Down);
-    };
+    ledger.apply(shelves, record, none)?;
+    append_record(host, record, none)?;
     Ok(())
+}
+
+// The record of what was told.
+fn learnt(name: Name, yes: bool) -> Record
+    ensures { (s : Order) → rec_of result s ≡ (if yes then Done name else Dropped name) }
+{
+    if yes {
+        Record::Done(name)
+    } else {
+        Record::Dropped(name)
+    }
 }
 
 pub fn learn<H: Host>(
@@ -45,19 +54,11 @@ pub fn learn<H: Host>(
     name: Name,
     yes: bool,
 ) -> Result<(), Trouble>
-    requires { Tied ledger.old.house (record { file = H.file host.old; durable = H.durable host.old; sent = H.sent host.old }) (view ledger.old shelves.old) }
-    ensures step { Stepped ledger.old.house (plan_learn entry_model name yes (view ledger.old shelves.old)) (record { file = H.file host.old; durable = H.durable host.old; sent = H.sent host.old }) (record { file = H.file host.new; durable = H.durable host.new; sent = H.sent host.new }) (view ledger.old shelves.old) (view ledger.new shelves.new) result }
-    ensures tied { StillTied ledger.old.house (record { file = H.file host.new; durable = H.durable host.new; sent = H.sent host.new }) (view ledger.new shelves.new) result }
+    requires { Tied ledger.old.house (H.world host.old) (view ledger.old shelves.old) }
+    ensures step { Stepped ledger.old.house (plan_learn entry_model name yes (view ledger.old shelves.old)) (H.world host.old) (H.world host.new) (view ledger.old shelves.old) (view ledger.new shelves.new) result }
+    ensures tied { StillTied ledger.old.house (H.world host.new) (view ledger.new shelves.new) result }
     ensures house { ledger.new.house ≡ ledger.old.house }
 {
-    match ledger.may_learn(shelves, name, yes) {
-        Err(why) => Err(Trouble::Refused(why)),
-        Ok(_) => {
-            if yes {
-                note(host, ledger, shelves, Record::Done(name), &NO_ENTRIES)
-            } else {
-                note(host, ledger, shelves, Record::Dropped(name), &NO_ENTRIES)
-            }
-        }
-    }
+    ledger.may_learn(shelves, name, yes)?;
+    note(host, ledger, shelves, learnt(name, yes), &NO_ENTRIES)
 }

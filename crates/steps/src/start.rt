@@ -13,7 +13,7 @@ use ledger::{Ledger, MAX_BYTES, MAX_STARTS};
 use orders::{NO_ENTRIES, Record, Refusal};
 use std::alloc::Global;
 
-// The ledger that the bytes say, with its shelves in the lent words.
+// The ledger that the bytes say, with its shelves in the lent words: `Ledger::open`, its contract in the words of coming up.
 fn open_log(
     heap: Global,
     houses: u8,
@@ -23,13 +23,7 @@ fn open_log(
 ) -> Result<Ledger, Trouble>
     ensures { OpenedLog houses house bytes.now shelves.old shelves.new result }
 {
-    match Ledger::open(heap, houses, house, bytes, shelves) {
-        Ok(ledger) => Ok(ledger),
-        Err(why) => match why {
-            ledger::Trouble::Refused(number) => Err(Trouble::Refused(number)),
-            ledger::Trouble::NoMemory => Err(Trouble::NoMemory),
-        },
-    }
+    Ok(Ledger::open(heap, houses, house, bytes, shelves)?)
 }
 
 pub fn come_up<H: Host>(
@@ -39,30 +33,19 @@ pub fn come_up<H: Host>(
     house: u8,
     shelves: &mut [u32],
 ) -> Result<Ledger, Trouble>
-    ensures { CameUp houses house (record { file = H.file host.old; durable = H.durable host.old; sent = H.sent host.old }) (record { file = H.file host.new; durable = H.durable host.new; sent = H.sent host.new }) shelves.new result }
+    ensures { CameUp houses house (H.world host.old) (H.world host.new) shelves.new result }
 {
-    let mut ledger = match open_log(heap, houses, house, host.log(), shelves) {
-        Ok(ledger) => ledger,
-        Err(why) => return Err(why),
-    };
+    let mut ledger = open_log(heap, houses, house, host.log(), shelves)?;
     if ledger.start() >= MAX_STARTS {
-        return Err(Trouble::Refused(Refusal::BadHistory));
+        return Err(Refusal::BadHistory.into());
     }
     let len = ledger.bytes();
     if len + 1 > MAX_BYTES {
-        return Err(Trouble::Refused(Refusal::FileFull));
+        return Err(Refusal::FileFull.into());
     }
-    let Ok(_) = ledger.apply(shelves, Record::Began, &NO_ENTRIES) else {
-        return Err(Trouble::NoMemory);
-    };
-    let Ok(_) = host.cut(len) else {
-        return Err(Trouble::Down);
-    };
-    let Ok(_) = append_record(host, Record::Began, &NO_ENTRIES) else {
-        return Err(Trouble::Down);
-    };
-    let Ok(_) = host.sync() else {
-        return Err(Trouble::Down);
-    };
+    ledger.apply(shelves, Record::Began, &NO_ENTRIES)?;
+    host.cut(len)?;
+    append_record(host, Record::Began, &NO_ENTRIES)?;
+    host.sync()?;
     Ok(ledger)
 }

@@ -10,9 +10,9 @@ use crate::host::Host;
 use ledger::Ledger;
 
 pub fn sync<H: Host>(host: &mut H, ledger: &Ledger, shelves: &[u32]) -> Result<(), Broken>
-    requires { Tied ledger.now.house (record { file = H.file host.old; durable = H.durable host.old; sent = H.sent host.old }) (view ledger.now shelves.now) }
-    ensures step { Performs (record { adds = []; syncs = true; sends = [] }) (record { file = H.file host.old; durable = H.durable host.old; sent = H.sent host.old }) (record { file = H.file host.new; durable = H.durable host.new; sent = H.sent host.new }) result }
-    ensures tied { SyncTied ledger.now.house (record { file = H.file host.new; durable = H.durable host.new; sent = H.sent host.new }) (view ledger.now shelves.now) result }
+    requires { Tied ledger.now.house (H.world host.old) (view ledger.now shelves.now) }
+    ensures step { Performs (record { adds = []; syncs = true; sends = [] }) (H.world host.old) (H.world host.new) result }
+    ensures tied { SyncTied ledger.now.house (H.world host.new) (view ledger.now shelves.now) result }
 {
     host.sync()
 }

@@ -1,9 +1,6 @@
 use Rattle.ledger.specs.View.{view}
-use Rattle.steps.proofs.Driving.{ruled-backed}
-use Rattle.steps.proofs.Plans.{told-ruled}
+use Rattle.steps.proofs.Plans.{answer-backed}
 use Rattle.steps.proofs.ask.answer.Goals as goal
 
 pub send-requires : goal.send-requires
-send-requires g c =
-    let v = view c.args.ledger.now c.args.shelves.now in
-    ruled-backed _ _ v c.args.name c.requires (told-ruled c.args.name _ v c.in-Ok.yes c.if-yes.true c.in-Ok.ensures)
+send-requires g c = answer-backed _ _ c.args.name _ (view c.args.ledger.now c.args.shelves.now) c.in_ok-yes.yes c.requires c.in_ok-yes.ensures
