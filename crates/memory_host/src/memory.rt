@@ -1,9 +1,9 @@
 // A host in memory: the log as bytes, how many of them are durable, and every message sent.
-ghost use Rattle.std.specs.Prelude.{◌≡◌, [], ◌++◌, map, vec_len, OnOk};
-ghost use Rattle.memory_host.specs.Sent.{sent_of};
+ghost use Rattle.std.specs.Prelude.{◌≡◌, []};
+ghost use Rattle.memory_host.specs.Sent.{world_of};
 
 use orders::{Message, Order};
-use std::alloc::{AllocError, Global};
+use std::alloc::Global;
 use steps::broken::Broken;
 use steps::host::Host;
 
@@ -34,22 +34,8 @@ impl MemoryHost {
     }
 }
 
-// Adds the bytes at the end; where memory is wanting some first part of them may be there.
-fn push_all(log: &mut Vec<u8>, bytes: &[u8]) -> Result<(), AllocError>
-    ensures { OnOk result (log.new.items ≡ log.old.items ++ bytes.now) }
-{
-    for b in bytes {
-        log.push(*b)?;
-    }
-    Ok(())
-}
-
 impl Host for MemoryHost {
-    ghost file = { λ h. h.log.items };
-
-    ghost durable = { λ h. h.durable };
-
-    ghost sent = { λ h. map sent_of h.sent.items };
+    ghost world = { world_of };
 
     fn log(&self) -> &[u8] {
         self.log.as_slice()
@@ -61,10 +47,7 @@ impl Host for MemoryHost {
     }
 
     fn append(&mut self, bytes: &[u8]) -> Result<(), Broken> {
-        match push_all(&mut self.log, bytes) {
-            Ok(_) => Ok(()),
-            Err(_) => Err(Broken),
-        }
+        self.log.extend_from_slice(bytes).map_err(|_| Broken)
     }
 
     fn sync(&mut self) -> Result<(), Broken> {
@@ -73,12 +56,14 @@ impl Host for MemoryHost {
     }
 
     fn send(&mut self, message: Message, order: &Order) -> Result<(), Broken> {
-        match self.sent.push(Sent {
+        let sent = Sent {
             message,
             order: *order,
-        }) {
-            Ok(_) => Ok(()),
-            Err(_) => Err(Broken),
-        }
+        };
+        // Not `map_err`: with it the search leaves open that the message was sent.
+        let Ok(()) = self.sent.push(sent) else {
+            return Err(Broken);
+        };
+        Ok(())
     }
 }

@@ -2,13 +2,11 @@
 use crate::faulty::*;
 use crate::memory::*;
 use entries::named::NamedOrder;
-use ledger::Ledger;
 use ledger::getters::*;
 use orders::{Entry, NO_ENTRIES};
 use protocol::Name;
 use std::alloc::Global;
 use std::process::Abort;
-use steps::broken::Trouble;
 use steps::hold::hold;
 use steps::start::come_up;
 
@@ -35,8 +33,7 @@ fn sent_with(rt: &impl Abort, heap: Global, left: usize) -> usize {
         left,
     };
     match come_up(heap, &mut host, 2, 0, &mut shelves) {
-        Ok(ledger) => {
-            let mut ledger = ledger;
+        Ok(mut ledger) => {
             let answer = hold(&mut host, &mut ledger, &mut shelves, &sample());
             assert!(rt; answer.is_ok() == (left >= 6));
         }
