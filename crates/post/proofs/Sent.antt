@@ -1,31 +1,34 @@
--- What was sent, with one more hold message.
-use Rattle.std.proofs.Common.{◌≡◌, Bool, true, false, cond, ◌&&◌, ◌||◌, List, [], ◌∷◌, ◌++◌, refl, ap, ◌∙◌}
+-- What was sent, with one more yes or told message.
+use Rattle.std.proofs.Common.{◌≡◌, ℕ, nat_eq, arith, Bool, true, false, cond, ◌&&◌, ◌||◌, refl, ◌∙◌}
+use Rattle.std.proofs.lemmas.Bool.Decides.{nat_tests}
+use Rattle.std.specs.BTreeMap.{is_at}
+use Rattle.std.specs.BTreeSet.{BTreeSet, contains}
+use Rattle.protocol.specs.declared.Name.{Name}
+use Rattle.protocol.specs.Model.{same_name}
 use Rattle.protocol.specs.Net.{Hold, Yes, Told}
-use Rattle.protocol.specs.Run.{same_msg}
-use Rattle.orders.specs.Order.{Order, Msg, entry_model, same_order, any_by}
-use Rattle.post.specs.declared.holds.Holds.{Holds}
+use Rattle.protocol.specs.Run.{same_msg, same_bool}
+use Rattle.orders.specs.Order.{Msg, entry_model}
+use Rattle.names.proofs.Homes.{cond-or}
+use Rattle.post.specs.Pairs.{yes_cmp, told_cmp}
 use Rattle.post.specs.declared.Post.{Post}
-use Rattle.post.specs.Holds.{orders_of}
-use Rattle.post.specs.Posted.{posted, holds_of}
+use Rattle.post.specs.Posted.{posted}
 
-or_turn : (a b c : Bool) → (a || (b || c)) ≡ (b || (a || c))
-or_turn true true c = refl
-or_turn true false c = refl
-or_turn false b c = refl
+at-yes : (h j : ℕ) (n d : Name) → is_at (yes_cmp (h, n)) (j, d) ≡ (nat_eq j h && same_name d n)
+at-yes h j n d = grind (arith, nat_tests)
 
-any_snoc : (p : Order → Bool) (ts : List Order) (t : Order) → any_by p (ts ++ t ∷ []) ≡ (p t || any_by p ts)
-any_snoc p [] t = refl
-any_snoc p (u ∷ ts) t = ap (λ b. p u || b) (any_snoc p ts t) ∙ or_turn (p u) (p t) (any_by p ts)
+at-told : (a b : Bool) (n d : Name) → is_at (told_cmp (a, n)) (b, d) ≡ (same_name d n && same_bool entry_model b a)
+at-told true true n d = grind (arith, nat_tests)
+at-told true false n d = grind (arith, nat_tests)
+at-told false true n d = grind (arith, nat_tests)
+at-told false false n d = grind (arith, nat_tests)
 
-any-more : (p : Order → Bool) (b : Bool) (ts : List Order) (t : Order) → any_by p (cond b (ts ++ t ∷ []) ts) ≡ (b && p t || any_by p ts)
-any-more p true ts t = any_snoc p ts t
-any-more p false ts t = refl
+module _ (p : Post) where
+  pub yes-sent : (s : BTreeSet (ℕ × Name)) (h : ℕ) (n : Name) → ((q : ℕ × Name) → contains yes_cmp s q ≡ cond (is_at (yes_cmp (h, n)) q) true (contains yes_cmp p.yeses q)) → (m : Msg) → posted (record { holds = p.holds; yeses = s; told = p.told }) m ≡ (same_msg entry_model m (Yes h n) || posted p m)
+  yes-sent s h n u (Hold t) = refl
+  yes-sent s h n u (Yes j d) = u (j, d) ∙ cond-or _ _ _ (at-yes h j n d)
+  yes-sent s h n u (Told d b) = refl
 
-as_before : (b c : Bool) → c ≡ (b && false || c)
-as_before true c = refl
-as_before false c = refl
-
-pub hold-sent : (p : Post) (h : Holds) (b : Bool) (t : Order) → orders_of h ≡ cond b (holds_of p ++ t ∷ []) (holds_of p) → (m : Msg) → posted (record { holds = h; yeses = p.yeses; told_yes = p.told_yes; told_no = p.told_no }) m ≡ (b && same_msg entry_model m (Hold t) || posted p m)
-hold-sent p h b t e (Hold u) = ap (any_by (same_order u)) e ∙ any-more (same_order u) b (holds_of p) t
-hold-sent p h b t e (Yes j d) = as_before b (posted p (Yes j d))
-hold-sent p h b t e (Told d c) = as_before b (posted p (Told d c))
+  pub told-sent : (s : BTreeSet (Bool × Name)) (a : Bool) (n : Name) → ((q : Bool × Name) → contains told_cmp s q ≡ cond (is_at (told_cmp (a, n)) q) true (contains told_cmp p.told q)) → (m : Msg) → posted (record { holds = p.holds; yeses = p.yeses; told = s }) m ≡ (same_msg entry_model m (Told n a) || posted p m)
+  told-sent s a n u (Hold t) = refl
+  told-sent s a n u (Yes j d) = refl
+  told-sent s a n u (Told d b) = u (b, d) ∙ cond-or _ _ _ (at-told a b n d)

@@ -1,5 +1,6 @@
 -- The orders of the hold messages, in the order of sending. Assumes nothing.
-use Rattle.std.specs.Prelude.{cond, List, [], ◌∷◌, map, Some, None, vec_items, Option}
+use Rattle.std.specs.Prelude.{List, map, vec_items, Option}
+use Rattle.std.specs.List.{find}
 use Rattle.protocol.specs.declared.Name.{Name}
 use Rattle.protocol.specs.Model.{same_name}
 use Rattle.orders.specs.Order.{Order}
@@ -11,5 +12,4 @@ orders_of h = map named_of (vec_items h.orders)
 
 -- the first order of that name
 unfoldable pub hold_named : Name → List Order → Option Order
-hold_named n [] = None
-hold_named n (t ∷ ts) = cond (same_name n t.name) (Some t) (hold_named n ts)
+hold_named n ts = find (λ (t : Order). same_name n t.name) ts

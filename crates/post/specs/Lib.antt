@@ -1,5 +1,4 @@
-pub mod Places
 pub mod First
 pub mod Holds
-pub mod Yeses
+pub mod Pairs
 pub mod Posted

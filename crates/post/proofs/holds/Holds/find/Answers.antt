@@ -1,17 +1,16 @@
-use Rattle.std.proofs.Common.{◌<◌, vec_items, sym, ◌∙◌, subst}
-use Rattle.post.specs.Places.{place_of}
+use Rattle.std.proofs.Common.{◌≡◌, None, vec_items, ap, ◌∙◌, rules}
+use Rattle.std.specs.Option.{option_map}
+use Rattle.entries.specs.Named.{named_of}
+use Rattle.std.specs.BTreeMap.{get}
+use Rattle.names.specs.Names.{name_cmp}
 use Rattle.post.proofs.Firsts.{place-within, order-there, none-there}
 use Rattle.post.proofs.holds.Holds.find.Goals as goal
 
+pub returns-in_err-place : goal.returns-in_err-place
+returns-in_err-place c = let e : c.from_residual.result ≡ None = search rules in ap (option_map named_of) e ∙ none-there c.args.name (vec_items c.args.self.now.orders) _ (c.args.self.now.indexed c.args.name) (search rules)
+
 pub index-requires : goal.index-requires
-index-requires c =
-    subst (λ k. c.in-Some.place < k) (sym c.args.self.now.orders.ok.0)
-    (place-within c.args.name (vec_items c.args.self.now.orders) (place_of c.args.self.now.first c.args.name) (c.args.self.now.indexed c.args.name) c.in-Some.place (sym c.in-Some.is ∙ c.get.ensures))
+index-requires c = let h = place-within c.args.name (vec_items c.args.self.now.orders) (get name_cmp c.args.self.now.first c.args.name) (c.args.self.now.indexed c.args.name) c.in_ok-place.field-0.now (search rules) in search rules
 
-pub returns-in-Some : goal.returns-in-Some
-returns-in-Some c =
-    order-there c.args.name (vec_items c.args.self.now.orders) (place_of c.args.self.now.first c.args.name) (c.args.self.now.indexed c.args.name) c.in-Some.place c.index.result.now (sym c.in-Some.is ∙ c.get.ensures) c.index.ensures
-
-pub returns-in-None : goal.returns-in-None
-returns-in-None c =
-    none-there c.args.name (vec_items c.args.self.now.orders) (place_of c.args.self.now.first c.args.name) (c.args.self.now.indexed c.args.name) (sym c.in-None.is ∙ c.get.ensures)
+pub returns : goal.returns
+returns c = order-there c.args.name (vec_items c.args.self.now.orders) _ (c.args.self.now.indexed c.args.name) c.in_ok-place.field-0.now c.index.result.now (search rules) c.index.ensures

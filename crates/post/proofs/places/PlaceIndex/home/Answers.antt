@@ -1,6 +1,0 @@
-use Rattle.std.proofs.Common.{vec_items, rules}
-use Rattle.post.proofs.Homes.{homes_at}
-use Rattle.post.proofs.places.PlaceIndex.home.Goals as goal
-
-pub returns : goal.returns
-returns c = homes_at (vec_items c.args.self.now.homes) c.index.result.now c.args.name (search rules) c.index.ensures
