@@ -1,7 +1,7 @@
 // What is printed for small ledgers: each finding, and which of two comes first.
 use crate::print::write_report;
 use audit_search::audit;
-use orders::write::write_record;
+use orders::write::write;
 use orders::{Entry, NO_ENTRIES, Order, Record};
 use protocol::Name;
 use std::alloc::Global;
@@ -48,7 +48,7 @@ fn record(letter: u8) -> Record {
 // Adds the record to the file.
 fn push_record(rt: &impl Abort, file: &mut Vec<u8>, record: Record) -> Result<(), Fail> {
     let mut bytes = [0; 64];
-    let len = write_record(&mut bytes, record, &both()).ok().unwrap_or(99);
+    let len = write(&mut bytes, record, &both())?;
     assert!(rt; len <= 64);
     file.extend_from_slice(&bytes[0..len])?;
     Ok(())

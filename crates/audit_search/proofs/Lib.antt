@@ -1,7 +1,4 @@
-pub mod Asked
-pub mod Walk
-pub mod Dones
+pub mod Files
 pub mod Stand
 pub mod Found
 pub mod Meaning
-pub mod Stocked

@@ -8,11 +8,10 @@ use Rattle.protocol.specs.declared.Name.{Name}
 use Rattle.protocol.specs.House.{Began, Held, Done, Dropped, Ruled, ruled}
 use Rattle.orders.specs.declared.Entry.{Entry}
 use Rattle.orders.specs.Order.{Order, Rec, entry_model, party}
-use Rattle.audit_search.specs.declared.Fault.{Fault}
-use Rattle.audit_search.specs.declared.Fault.TheVariants.{DoneWithoutRuling, RuledAndMissing}
-use Rattle.audit_search.specs.declared.Pass.TheVariants.{Dones, Rulings}
+use Rattle.audit_search.specs.declared.faults.Fault.{Fault}
+use Rattle.audit_search.specs.declared.faults.Fault.TheVariants.{DoneWithoutRuling, RuledAndMissing}
 use Rattle.audit_search.specs.Account.{Account, account_of, no_account, keeps, lacks}
-use Rattle.audit_search.specs.Search.{or_else, done_fault, ruling_fault, ruled_at, first_lacking, first_in, first_over, first_fault, finding_of, faulty, sound, search, shelves_from, stocked}
+use Rattle.audit_search.specs.Search.{or_else, done_fault, ruling_fault, ruled_at, first_lacking, first_in, first_over, first_done, first_ruling, finding_of, faulty, sound, search, shelves_from, stocked}
 use Rattle.audit_search.specs.Sound.{DonesRuled, RulingsKept, Shows, SoundExactly, FaultsThere}
 
 -- one answer or the other
@@ -135,10 +134,10 @@ module _ (fs : List (List Rec)) where
       pick true q = refl
       pick false q = let n : ◌≡◌ {A = ℕ} 0 1 = cc in absurd (omega arith)
 
-  dones-none : DonesRuled fs → first_fault Dones fs ≡ None
+  dones-none : DonesRuled fs → first_done fs ≡ None
   dones-none h = over_none (done_fault hs) 0 fs (done_none h)
 
-  none-dones : first_fault Dones fs ≡ None → DonesRuled fs
+  none-dones : first_done fs ≡ None → DonesRuled fs
   none-dones e i d m = let w = none_over (done_fault hs) 0 fs e i (Done d) m in none_done w.0 d w.1
 
   -- a ruled order is missing nowhere exactly if each house of it keeps it
@@ -159,10 +158,10 @@ module _ (fs : List (List Rec)) where
       let b : i < length fs = subst (λ w. w < length fs) s (subst (λ w. l < w) (length-map fs account_of) below) in
       kept t l i s ∙ no-lack (party i t) (keeps t (account_of (get_or fs i []))) (h j t m i b))
 
-  rulings-none : RulingsKept fs → first_fault Rulings fs ≡ None
+  rulings-none : RulingsKept fs → first_ruling fs ≡ None
   rulings-none h = over_none (λ k r. ruling_fault hs r) 0 fs (ruling-none h)
 
-  none-rulings : first_fault Rulings fs ≡ None → RulingsKept fs
+  none-rulings : first_ruling fs ≡ None → RulingsKept fs
   none-rulings e i t m j l here =
       let w = none_over (λ k r. ruling_fault hs r) 0 fs e i (Ruled t) m in
       let q = none-lack t 0 hs w.1 j j (omega arith) (subst (λ n. j < n) (sym (length-map fs account_of)) l) in
@@ -173,7 +172,7 @@ module _ (fs : List (List Rec)) where
       keeps-it false c h q = absurd (false≢true h)
 
   sound-of : DonesRuled fs → RulingsKept fs → search fs ≡ sound (stocked 0 (shelves_from 0 fs))
-  sound-of a b = ap (λ o. finding_of (or_else o (first_fault Rulings fs)) fs) (dones-none a) ∙ ap (λ o. finding_of o fs) (rulings-none b)
+  sound-of a b = ap (λ o. finding_of (or_else o (first_ruling fs)) fs) (dones-none a) ∙ ap (λ o. finding_of o fs) (rulings-none b)
 
   nothing : (o : Option Fault) (es : List Entry) → finding_of o fs ≡ sound es → o ≡ None
   nothing None es e = refl
@@ -181,7 +180,7 @@ module _ (fs : List (List Rec)) where
 
   of-sound : (es : List Entry) → search fs ≡ sound es → DonesRuled fs × RulingsKept fs
   of-sound es e =
-      let p = none_both (first_fault Dones fs) (first_fault Rulings fs) (nothing (or_else (first_fault Dones fs) (first_fault Rulings fs)) es e) in
+      let p = none_both (first_done fs) (first_ruling fs) (nothing (or_else (first_done fs) (first_ruling fs)) es e) in
       (none-dones p.0, none-rulings p.1)
 
   something : (o : Option Fault) (x : Fault) → finding_of o fs ≡ faulty x → o ≡ Some x
@@ -214,7 +213,7 @@ module _ (fs : List (List Rec)) where
       subst (Shows fs) w.5 (a, (k, t, m, refl, subst (λ y. y < length fs) s (subst (λ y. w.0 < y) (length-map fs account_of) w.3), both.0, not-true (keeps t (account_of (get_or fs i []))) both.1))
 
   fault-there : (x : Fault) → search fs ≡ faulty x → Shows fs x
-  fault-there x e = elim (some_one (first_fault Dones fs) (first_fault Rulings fs) x (something (or_else (first_fault Dones fs) (first_fault Rulings fs)) x e)) [
+  fault-there x e = elim (some_one (first_done fs) (first_ruling fs) x (something (or_else (first_done fs) (first_ruling fs)) x e)) [
     | inl s ↦ let w = some-over (done_fault hs) 0 fs x s in let q = w.2 in let z : w.1 ≡ w.0 = omega arith in done-there w.0 w.3 x (subst (λ j. Memᴰ w.3 (get_or fs j [])) z w.4) w.5
     | inr s ↦ let w = some-over (λ k r. ruling_fault hs r) 0 fs x s.1 in ruling-there w.1 w.3 x (none-dones s.0) w.4 w.5
   ]

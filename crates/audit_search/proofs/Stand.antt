@@ -1,6 +1,7 @@
 -- A house that is opened, and one house more. Assumes nothing.
-use Rattle.std.proofs.Common.{◌≡◌, ℕ, ◌+◌, ◌<◌, List, [], ◌∷◌, ◌++◌, map, length, get_or, Ok, Err, vec_items, sym, refl, ap, ◌∙◌, subst, inl, inr, arith}
-use Rattle.std.proofs.lemmas.List.{ext_get_or, length_push, length-map, get_or_push, get_or_append_left, map_push}
+use Rattle.std.proofs.Common.{◌≡◌, ℕ, ◌+◌, ◌<◌, List, [], ◌∷◌, ◌++◌, map, length, get_or, Ok, Err, Result, MatchResult, vec_items, sym, refl, ap, ◌∙◌, subst, inl, inr, arith}
+use Rattle.std.specs.Result.{IsErrAnd}
+use Rattle.std.proofs.lemmas.List.{ext_get_or, length_push, length-map, get_or-map, get_or_push, get_or_append_left, map_push}
 use Rattle.std.proofs.lemmas.Bool.{cases_lt}
 use Rattle.protocol.specs.declared.Name.{Name}
 use Rattle.protocol.specs.House.{stock}
@@ -8,8 +9,7 @@ use Rattle.protocol.specs.State.{State, state_of}
 use Rattle.names.specs.Index.{in_index}
 use Rattle.names.specs.declared.NameIndex.{NameIndex}
 use Rattle.orders.specs.Order.{Rec, entry_model}
-use Rattle.orders.specs.File.{Reached, Ended}
-use Rattle.orders.specs.declared.Refusal.{Refusal}
+use Rattle.orders.specs.File.{records}
 use Rattle.entries.specs.Named.{named_of}
 use Rattle.ledger.specs.View.{view}
 use Rattle.ledger.specs.Opening.{Opened, Cause}
@@ -17,29 +17,45 @@ use Rattle.ledger.specs.declared.Ledger.{Ledger}
 use Rattle.ledger.specs.declared.Trouble.{Trouble}
 use Rattle.ledger.specs.declared.Trouble.TheVariants.{Refused, NoMemory}
 use Rattle.orders.proofs.Files.{file-one-reading}
+use Rattle.orders.proofs.Listing.{file-listed}
 use Rattle.ledger.proofs.Once.{says-file}
-use Rattle.audit_search.specs.declared.types.House.{House}
+use Rattle.audit_search.specs.declared.house.House.{House}
+use Rattle.audit_search.specs.declared.faults.Fault.{Fault}
+use Rattle.audit_search.specs.declared.faults.Fault.TheVariants as fault
 use Rattle.audit_search.specs.Account.{Account, account_of, was_done}
-use Rattle.audit_search.specs.Search.{shelves_from}
-use Rattle.audit_search.specs.Audited.{Opens, OpenTo, ReadOnce, HouseOpened, StandTo, account, shelves_of}
-use Rattle.audit_search.proofs.Walk.{cut-ends}
+use Rattle.audit_search.specs.Search.{shelves_from, why_shut}
+use Rattle.audit_search.specs.Audited.{Opens, OpenTo, AllOpen, ReadOnce, HouseOpened, AllOpened, StandTo, account, shelves_of}
+
+-- the records of a file that opens are those that are read from its bytes
+only-records : (n h : ℕ) (bs : List ℕ) (rs : List Rec) → Opens n h bs rs → records n bs ≡ rs
+only-records n h bs rs p =
+    let l = file-listed n bs in
+    (file-one-reading n bs _ _ _ _ l.1 l.2 p.opened.read (λ r rest e. let z : ◌≡◌ {A = ℕ} 0 1 = cc in omega arith)).0 ∙ sym p.says
 
 module _ (n h : ℕ) (bs : List ℕ) (before after : List ℕ) where
-  pub house-opened : (l : Ledger) (done : NameIndex) (ws : List ℕ) → Opened n h bs before after (Ok l) → ((rs : List Rec) (xs : List ℕ) → Reached n bs rs xs → Ended n xs → (d : Name) → in_index done d ≡ was_done d rs) → ws ≡ after →
+  pub house-opened : (l : Ledger) (done : NameIndex) (ws : List ℕ) → Opened n h bs before after (Ok l) → ((d : Name) → in_index done d ≡ was_done d (records n bs)) → ws ≡ after →
       (rs : List Rec) × Opens n h bs rs × (◌≡◌ {A = Account} (record { ruled = in_index l.ruled; held = map named_of (vec_items l.held); done = in_index done }) (account_of rs)) × (ws ≡ stock entry_model h rs)
   house-opened l done ws p f e =
       let q = p.1 in
       let s : view l after ≡ state_of entry_model h q.records = says-file n h bs (view l after) q in
-      let g = f q.records _ q.read (cut-ends n _ p.2) in (
+      let o : Opens n h bs q.records = record { state = view l after; opened = q; ends = p.2; says = refl } in (
         q.records,
-        record { state = view l after; opened = q; ends = p.2; says = refl },
-        (λ i. record { ruled = (s i).ruled; held = (s i).held; done = λ d. g d i }),
+        o,
+        (λ i. record { ruled = (s i).ruled; held = (s i).held; done = λ d. (f d ∙ ap (was_done d) (only-records n h bs q.records o)) i }),
         e ∙ ap (λ (v : State entry_model). v.shelves) s,
       )
 
-  pub house-refused : (x : Trouble) → Opened n h bs before after (Err x) → HouseOpened n h bs (Err x)
-  house-refused (Refused f) p = p.1
+  pub house-refused : (x : Trouble) → Opened n h bs before after (Err x) → HouseOpened n h bs (Err (why_shut h x))
+  house-refused (Refused f) p = (refl, p.1)
   house-refused NoMemory p = tt
+
+  -- the ledger's answer with its error mapped
+  module _ (post : Trouble → Fault → Type 0) (x : Result Ledger Trouble) (r : Result Ledger Fault) (p : Opened n h bs before after x) (m : MatchResult x (λ l. r ≡ Ok l) (λ t. IsErrAnd r (post t))) where
+    pub mapped-ok : (l : Ledger) → r ≡ Ok l → Opened n h bs before after (Ok l)
+    mapped-ok l e = grind arith
+
+    pub mapped-err : ((t : Trouble) (f : Fault) → post t f → f ≡ why_shut h t) → (f : Fault) → r ≡ Err f → HouseOpened n h bs (Err f)
+    mapped-err says f e = grind (arith, house-refused)
 
 shelves-push : (i : ℕ) (rss : List (List Rec)) (rs : List Rec) (k : ℕ) → k ≡ i + length rss → shelves_from i (rss ++ rs ∷ []) ≡ shelves_from i rss ++ stock entry_model k rs ∷ []
 unfolding shelves_from
@@ -70,16 +86,23 @@ module _ (fs : List (List ℕ)) where
           shelves = ap (map shelves_of) e ∙ map_push shelves_of ks k ∙ (λ j. p.shelves j ++ q.3 j ∷ []) ∙ sym (shelves-push 0 p.records rs i (let z = p.opened.count in omega arith));
         }
 
-    pub stand-refused : i < length fs → (x : Trouble) (f : Refusal) → x ≡ Refused f → HouseOpened n i bs (Err x) → (i < length fs) × ((rss : List (List Rec)) × OpenTo i fs rss) × Cause (length fs) i (get_or fs i []) f
-    stand-refused l x f e q =
-        (l, (p.records, p.opened), subst (λ m. Cause m i (get_or fs i []) f) all (subst (λ w. Cause n i w f) at (subst (λ y. HouseOpened n i bs (Err y)) e q)))
+    pub stand-refused : i < length fs → (x : Fault) → HouseOpened n i bs (Err x) → AllOpened fs (Err x)
+    stand-refused l (fault.Refused f h) q =
+        let e = sym q.0 in
+        subst (λ j. (j < length fs) × ((rss : List (List Rec)) × OpenTo j fs rss) × Cause (length fs) j (get_or fs j []) f) e
+        (l, (p.records, p.opened), subst (λ m. Cause m i (get_or fs i []) f) all (subst (λ w. Cause n i w f) at q.1))
+    stand-refused l (fault.DoneWithoutRuling h d) q = q
+    stand-refused l (fault.RuledAndMissing h d) q = q
+    stand-refused l fault.NoMemory q = tt
 
-  pub stand-count : (k : ℕ) (ks : List House) → StandTo k fs ks → length ks ≡ k
-  stand-count k ks p = sym (length-map ks account) ∙ ap length p.accounts ∙ length-map p.records account_of ∙ p.opened.count
-
-one-file : (n h : ℕ) (bs : List ℕ) (rs qs : List Rec) → Opens n h bs rs → Opens n h bs qs → rs ≡ qs
-one-file n h bs rs qs p q = p.says ∙ (file-one-reading n bs _ _ _ _ p.opened.read (cut-ends n _ p.ends) q.opened.read (cut-ends n _ q.ends)).0 ∙ sym q.says
+-- the records of files that open are those that are read from their bytes
+pub only-files : (fs : List (List ℕ)) (rss : List (List Rec)) → AllOpen fs rss → map (records (length fs)) fs ≡ rss
+only-files fs rss p = ext_get_or [] (map (records (length fs)) fs) rss (length-map fs (records (length fs)) ∙ sym p.count) each
+  where
+    each : (i : ℕ) → i < length (map (records (length fs)) fs) → get_or (map (records (length fs)) fs) i [] ≡ get_or rss i []
+    each i l =
+        let m : i < length fs = subst (λ k. i < k) (length-map fs (records (length fs))) l in
+        get_or-map (records (length fs)) fs i [] [] m ∙ only-records (length fs) i (get_or fs i []) (get_or rss i []) (p.each i m)
 
 pub read-once : ReadOnce
-read-once fs rss qss p q =
-    ext_get_or [] rss qss (p.count ∙ sym q.count) (λ i l. let m = subst (λ k. i < k) p.count l in one-file (length fs) i (get_or fs i []) (get_or rss i []) (get_or qss i []) (p.each i m) (q.each i m))
+read-once fs rss qss p q = sym (only-files fs rss p) ∙ only-files fs qss q

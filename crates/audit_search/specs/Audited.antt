@@ -1,5 +1,6 @@
 -- What an audit of files answers: each is opened, that of house 0 first, and if none is refused their records are searched. Assumes nothing.
-use Rattle.std.specs.Prelude.{◌≡◌, ℕ, ◌<◌, false, List, [], map, length, drop, Ok, Err, vec_items, Result, slice_index_or}
+use Rattle.std.specs.Prelude.{◌≡◌, ℕ, ◌<◌, false, List, [], map, length, drop, Ok, Err, vec_items, Vec, Result, slice_index_or}
+use Rattle.std.specs.declared.alloc.Global.{Global}
 use Rattle.protocol.specs.Model.{houses_ok}
 use Rattle.protocol.specs.House.{stock}
 use Rattle.protocol.specs.State.{State}
@@ -10,13 +11,11 @@ use Rattle.orders.specs.Parse.{cut, parse}
 use Rattle.orders.specs.declared.Refusal.{Refusal}
 use Rattle.entries.specs.Named.{named_of}
 use Rattle.ledger.specs.Opening.{ReadTo, Cause}
-use Rattle.ledger.specs.declared.Trouble.{Trouble}
-use Rattle.ledger.specs.declared.Trouble.TheVariants as trouble
-use Rattle.audit_search.specs.declared.types.House.{House}
-use Rattle.audit_search.specs.declared.opening.Opening.{Opening}
-use Rattle.audit_search.specs.declared.opening.Opening.TheVariants as opening
-use Rattle.audit_search.specs.declared.Report.{Report}
-use Rattle.audit_search.specs.declared.Report.TheVariants as report
+use Rattle.orders.specs.declared.Entry.{Entry}
+use Rattle.audit_search.specs.declared.house.House.{House}
+use Rattle.audit_search.specs.declared.houses.Houses.{Houses}
+use Rattle.audit_search.specs.declared.faults.Fault.{Fault}
+use Rattle.audit_search.specs.declared.faults.Fault.TheVariants as fault
 use Rattle.audit_search.specs.Account.{Account, account_of}
 use Rattle.audit_search.specs.Search.{Finding, refused, faulty, sound, search, shelves_from}
 
@@ -54,18 +53,28 @@ account k = record { ruled = in_index k.ledger.ruled; held = map named_of (vec_i
 abbrev pub shelves_of : House → List ℕ
 shelves_of k = vec_items k.shelves
 
+-- the same of the code's houses, in the order of their numbers
+abbrev pub accounts : Houses → List Account
+accounts hs = map account (vec_items hs.all)
+
+abbrev pub all_shelves : Houses → List (List ℕ)
+all_shelves hs = map shelves_of (vec_items hs.all)
+
 -- the same of the answer; want of memory says nothing
-abbrev pub Answered : List (List ℕ) → Report → Type 0
-Answered fs (report.Refused f h) = Audited fs (refused (number_of f) h)
-Answered fs (report.Faulty x) = Audited fs (faulty x)
-Answered fs (report.Sound es) = Audited fs (sound (vec_items es))
-Answered fs report.NoMemory = Unit {0}
+abbrev pub Answered : List (List ℕ) → Result (Vec Entry Global) Fault → Type 0
+Answered fs (Ok es) = Audited fs (sound (vec_items es))
+Answered fs (Err (fault.Refused f h)) = Audited fs (refused (number_of f) h)
+Answered fs (Err (fault.DoneWithoutRuling h d)) = Audited fs (faulty (fault.DoneWithoutRuling h d))
+Answered fs (Err (fault.RuledAndMissing h d)) = Audited fs (faulty (fault.RuledAndMissing h d))
+Answered fs (Err fault.NoMemory) = Unit {0}
 
 -- house h is as its file says, or why its file is refused
-abbrev pub HouseOpened : ℕ → ℕ → List ℕ → Result House Trouble → Type 0
+abbrev pub HouseOpened : ℕ → ℕ → List ℕ → Result House Fault → Type 0
 HouseOpened n h bs (Ok k) = (rs : List Rec) × Opens n h bs rs × (account k ≡ account_of rs) × (shelves_of k ≡ stock entry_model h rs)
-HouseOpened n h bs (Err (trouble.Refused f)) = Cause n h bs f
-HouseOpened n h bs (Err trouble.NoMemory) = Unit {0}
+HouseOpened n h bs (Err (fault.Refused f i)) = (i ≡ h) × Cause n h bs f
+HouseOpened n h bs (Err (fault.DoneWithoutRuling i d)) = ⊥
+HouseOpened n h bs (Err (fault.RuledAndMissing i d)) = ⊥
+HouseOpened n h bs (Err fault.NoMemory) = Unit {0}
 
 -- the first k houses are as their files say
 pub record StandTo (k : ℕ) (fs : List (List ℕ)) (ks : List House) : Type 0 where
@@ -75,7 +84,9 @@ pub record StandTo (k : ℕ) (fs : List (List ℕ)) (ks : List House) : Type 0 w
   pub shelves : map shelves_of ks ≡ shelves_from 0 records
 
 -- all houses are as their files say, or the first file that is refused
-abbrev pub AllOpened : List (List ℕ) → Opening → Type 0
-AllOpened fs (opening.All ks) = StandTo (length fs) fs (vec_items ks)
-AllOpened fs (opening.Refused f h) = (h < length fs) × ((rss : List (List Rec)) × OpenTo h fs rss) × Cause (length fs) h (slice_index_or fs h []) f
-AllOpened fs opening.NoMemory = Unit {0}
+abbrev pub AllOpened : List (List ℕ) → Result Houses Fault → Type 0
+AllOpened fs (Ok hs) = StandTo (length fs) fs (vec_items hs.all)
+AllOpened fs (Err (fault.Refused f h)) = (h < length fs) × ((rss : List (List Rec)) × OpenTo h fs rss) × Cause (length fs) h (slice_index_or fs h []) f
+AllOpened fs (Err (fault.DoneWithoutRuling h d)) = ⊥
+AllOpened fs (Err (fault.RuledAndMissing h d)) = ⊥
+AllOpened fs (Err fault.NoMemory) = Unit {0}

@@ -1,14 +1,18 @@
 -- What an audit finds in the records of all files, that of house 0 first: the first done without a ruling at its home, else the first
 -- ruled order that a house of it neither holds back nor did, else nothing, and the shelves. Assumes nothing.
-use Rattle.std.specs.Prelude.{ℕ, ◌+◌, ◌*◌, Bool, cond, List, [], ◌∷◌, ◌++◌, map, Some, None, Option, ◌==◌, slice_index_or}
+use Rattle.std.specs.Prelude.{◌≡◌, ℕ, ◌+◌, ◌*◌, Bool, cond, List, [], ◌∷◌, ◌++◌, map, Some, None, Option, Ok, Err, Result, ◌==◌, slice_index_or}
+use Rattle.std.proofs.Common.{Bor}
 use Rattle.protocol.specs.declared.Name.{Name}
 use Rattle.protocol.specs.House.{Began, Held, Done, Dropped, Ruled, stock}
 use Rattle.orders.specs.declared.Entry.{Entry}
+use Rattle.orders.specs.declared.Order.{Order as Slots}
+use Rattle.orders.specs.declared.Record.{Record}
+use Rattle.orders.specs.Values.{rec_of}
 use Rattle.orders.specs.Order.{Order, Rec, entry_model}
-use Rattle.audit_search.specs.declared.Fault.{Fault}
-use Rattle.audit_search.specs.declared.Fault.TheVariants.{DoneWithoutRuling, RuledAndMissing}
-use Rattle.audit_search.specs.declared.Pass.{Pass}
-use Rattle.audit_search.specs.declared.Pass.TheVariants.{Dones, Rulings}
+use Rattle.ledger.specs.declared.Trouble.{Trouble}
+use Rattle.ledger.specs.declared.Trouble.TheVariants as trouble
+use Rattle.audit_search.specs.declared.faults.Fault.{Fault}
+use Rattle.audit_search.specs.declared.faults.Fault.TheVariants.{Refused, DoneWithoutRuling, RuledAndMissing, NoMemory}
 use Rattle.audit_search.specs.Account.{Account, account_of, no_account, lacks}
 
 abbrev pub or_else : {Y : Type 0} → Option Y → Option Y → Option Y
@@ -40,11 +44,6 @@ ruling_fault hs (Done d) = None
 ruling_fault hs (Dropped d) = None
 ruling_fault hs (Ruled t) = first_lacking t 0 hs
 
--- the files are gone through twice: for dones, and for rulings
-abbrev pub fault_of : Pass → List Account → ℕ → Rec → Option Fault
-fault_of Dones hs i r = done_fault hs i r
-fault_of Rulings hs i r = ruling_fault hs r
-
 -- the first fault that a record of the file shows
 unfoldable pub first_in : (Rec → Option Fault) → List Rec → Option Fault
 first_in f [] = None
@@ -55,8 +54,21 @@ unfoldable pub first_over : (ℕ → Rec → Option Fault) → ℕ → List (Lis
 first_over f i [] = None
 first_over f i (rs ∷ rss) = or_else (first_in (f i) rs) (first_over f (i + 1) rss)
 
-abbrev pub first_fault : Pass → List (List Rec) → Option Fault
-first_fault p fs = first_over (fault_of p (map account_of fs)) 0 fs
+-- the files are gone through twice: for dones, and for rulings
+abbrev pub first_done : List (List Rec) → Option Fault
+first_done fs = first_over (done_fault (map account_of fs)) 0 fs
+
+abbrev pub first_ruling : List (List Rec) → Option Fault
+first_ruling fs = first_over (λ i. ruling_fault (map account_of fs)) 0 fs
+
+-- what a check answers: that it found nothing, or the fault
+abbrev pub checked : Option Fault → Result (Unit {0}) Fault
+checked None = Ok tt
+checked (Some x) = Err x
+
+-- a check of a record of house h's file, beside which the entries stand, answers by f
+abbrev pub Checks : ((h : ℕ) → Record → Bor Slots → Result (Unit {0}) Fault → Type 0) → (ℕ → Rec → Option Fault) → Type 0
+Checks answers f = (h : ℕ) (r : Record) (s : Bor Slots) (x : Result (Unit {0}) Fault) → answers h r s x → x ≡ checked (f h (rec_of r s.now))
 
 -- the shelves of the houses, the first file being house i's
 unfoldable pub shelves_from : ℕ → List (List Rec) → List (List ℕ)
@@ -85,4 +97,9 @@ finding_of None fs = sound (stocked 0 (shelves_from 0 fs))
 
 -- THE AUDIT of files that open
 abbrev pub search : List (List Rec) → Finding
-search fs = finding_of (or_else (first_fault Dones fs) (first_fault Rulings fs)) fs
+search fs = finding_of (or_else (first_done fs) (first_ruling fs)) fs
+
+-- what it says of house h that its ledger was not opened
+abbrev pub why_shut : ℕ → Trouble → Fault
+why_shut h (trouble.Refused f) = Refused f h
+why_shut h trouble.NoMemory = NoMemory

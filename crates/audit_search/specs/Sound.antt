@@ -5,8 +5,8 @@ use Rattle.protocol.specs.declared.Name.{Name}
 use Rattle.protocol.specs.House.{Done, Ruled, ruled}
 use Rattle.orders.specs.declared.Entry.{Entry}
 use Rattle.orders.specs.Order.{Order, Rec, entry_model, party}
-use Rattle.audit_search.specs.declared.Fault.{Fault}
-use Rattle.audit_search.specs.declared.Fault.TheVariants.{DoneWithoutRuling, RuledAndMissing}
+use Rattle.audit_search.specs.declared.faults.Fault.{Fault}
+use Rattle.audit_search.specs.declared.faults.Fault.TheVariants.{Refused, DoneWithoutRuling, RuledAndMissing, NoMemory}
 use Rattle.audit_search.specs.Account.{account_of, keeps}
 use Rattle.audit_search.specs.Search.{faulty, sound, search, shelves_from, stocked}
 
@@ -24,8 +24,10 @@ module _ (fs : List (List Rec)) where
   RulingsKept = (i : ℕ) (t : Order) → Memᴰ (Ruled t) (file i) → (j : ℕ) → j < length fs → party j t ≡ true → keeps t (account_of (file j)) ≡ true
 
   -- the house did it, and its home did not rule it; or it was ruled, and the house, one of the order's, neither holds it back nor did it:
-  -- then whatever a house did was ruled
+  -- then whatever a house did was ruled; no search of records finds anything else
   abbrev pub Shows : Fault → Type 0
+  Shows (Refused f h) = ⊥
+  Shows NoMemory = ⊥
   Shows (DoneWithoutRuling i d) = Memᴰ (Done d) (file i) × (ruled entry_model d (file d.home) ≡ false)
   Shows (RuledAndMissing j d) =
       DonesRuled

@@ -1,52 +1,46 @@
 // One house of an audit: opening its file, and what is asked of it.
-ghost use Rattle.std.specs.Prelude.{◌≡◌, ℕ, List, map, length, IfOk};
+ghost use Rattle.std.specs.Prelude.{◌≡◌, ◌++◌, IfOk, OnOk, vec_len};
 ghost use Rattle.protocol.specs.declared.Name.{Name};
-ghost use Rattle.protocol.specs.Plan.{is_held_back};
 ghost use Rattle.names.specs.Index.{in_index};
-ghost use Rattle.orders.specs.Order.{Rec, entry_model};
-ghost use Rattle.orders.specs.File.{Reached, Ended};
+ghost use Rattle.orders.specs.File.{records};
 ghost use Rattle.entries.specs.Named.{named_of};
 ghost use Rattle.audit_search.specs.Account.{was_done, keeps, lacks};
-ghost use Rattle.audit_search.specs.Audited.{account, shelves_of, HouseOpened};
+ghost use Rattle.audit_search.specs.Search.{stocked_in, why_shut};
 
-use crate::types::House;
+use crate::faults::Fault;
 use entries::named::NamedOrder;
-use entries::order::*;
-use ledger::getters::*;
-use ledger::opening::*;
 use ledger::{Ledger, SHELVES, Trouble};
 use names::NameIndex;
-use names::index::*;
-use orders::Record;
-use orders::read::{Read, record_at};
+use orders::records::Records;
+use orders::{Entry, Record};
 use protocol::Name;
 use std::alloc::{AllocError, Global};
 
+// What a house's file says, its shelves, and the names of the orders that it did.
+#[derive(Drop)]
+pub(crate) struct House {
+    ledger: Ledger,
+    shelves: Vec<u32>,
+    done: NameIndex,
+    ghost all: { vec_len shelves ≡ 4096 },
+}
+
 impl House {
+    ghost use Rattle.audit_search.specs.Audited.{account, shelves_of, HouseOpened};
+
     // The house that the bytes of its file say.
-    pub(crate) fn open(heap: Global, houses: u8, house: u8, bytes: &[u8]) -> Result<House, Trouble>
+    pub(crate) fn open(heap: Global, houses: u8, house: u8, bytes: &[u8]) -> Result<House, Fault>
         ensures { HouseOpened houses house bytes.now result }
     {
-        let Ok(mut shelves) = vec![in heap; 0; SHELVES] else {
-            return Err(Trouble::NoMemory);
-        };
-        let ledger = Ledger::open(heap, houses, house, bytes, shelves.as_mut_slice())?;
-        let Ok(done) = done_names(heap, houses, bytes) else {
-            return Err(Trouble::NoMemory);
-        };
+        let mut shelves = vec![in heap; 0; SHELVES]?;
+        let opened = Ledger::open(heap, houses, house, bytes, shelves.as_mut_slice());
+        let ledger = opened.map_err(|trouble| why_shut(house, trouble))?;
+        let done = done_names(heap, houses, bytes)?;
         Ok(House {
             ledger,
             shelves,
             done,
         })
-    }
-
-    // The amounts on the house's shelves, by item.
-    pub(crate) fn shelves(&self) -> &[u32]
-        ensures value { result.now ≡ shelves_of self.now }
-        ensures count { length result.now ≡ 4096 }
-    {
-        self.shelves.as_slice()
     }
 
     // Whether the house ruled the order of that name.
@@ -60,7 +54,7 @@ impl House {
     fn keeps(&self, order: &NamedOrder) -> bool
         ensures { result ≡ keeps (named_of order.now) (account self.now) }
     {
-        self.done.contains(order.name) || any_same(order, self.ledger.held())
+        self.done.contains(order.name) || self.ledger.is_holding(order)
     }
 
     // Whether the order touches it, the house of that number, and it neither did it nor holds it back.
@@ -69,33 +63,44 @@ impl House {
     {
         order.touches_house(u32::from(house)) && !self.keeps(order)
     }
+
+    // Adds its shelves that are not 0, by rising item; it is the house of that number.
+    #[tactic(auto, unfolding(crate::specs::Search::stocked_in))]
+    pub(crate) fn push_stocked(&self, house: u8, all: &mut Vec<Entry>) -> Result<(), AllocError>
+        ensures { OnOk result (all.new.items ≡ all.old.items ++ stocked_in house 0 (shelves_of self.now)) }
+    {
+        for (item, amount) in self.shelves.iter().enumerate() {
+            if *amount != 0 {
+                all.push(Entry {
+                    key: u32::from(house) * 65536 + item as u32,
+                    amount: *amount,
+                })?;
+            }
+        }
+        Ok(())
+    }
 }
 
-// Whether the order itself is among those held back.
-fn any_same(order: &NamedOrder, held: &[NamedOrder]) -> bool
-    ensures { result ≡ is_held_back entry_model (named_of order.now) (map named_of held.now) }
+// What it means for the house that its ledger was not opened.
+fn why_shut(house: u8, trouble: Trouble) -> Fault
+    ensures { result ≡ why_shut house trouble }
 {
-    for u in held {
-        if order.is_same(u) {
-            return true;
-        }
+    match trouble {
+        Trouble::Refused(why) => Fault::Refused(why, house),
+        Trouble::NoMemory => Fault::NoMemory,
     }
-    false
 }
 
 // The names of the done records of a file.
+#[tactic(auto, unfolding(crate::specs::Account::was_done))]
 fn done_names(heap: Global, houses: u8, bytes: &[u8]) -> Result<NameIndex, AllocError>
-    ensures { IfOk result (λ x. (rs : List Rec) (xs : List ℕ) → Reached houses bytes.now rs xs → Ended houses xs → (d : Name) → in_index x d ≡ was_done d rs) }
+    ensures { IfOk result (λ x. (d : Name) → in_index x d ≡ was_done d (records houses bytes.now)) }
 {
-    let mut done = NameIndex::new(heap)?;
-    let mut at = 0;
-    loop {
-        let Read::Whole(record, _, next) = record_at(houses, bytes, at) else {
-            return Ok(done);
-        };
+    let mut done = NameIndex::new(heap);
+    for (record, _) in Records::new(houses, bytes) {
         if let Record::Done(name) = record {
             done.insert(name)?;
         }
-        at = next;
     }
+    Ok(done)
 }
