@@ -1,7 +1,7 @@
 -- Entries read one by one behind those read so far.
 use Rattle.std.proofs.Common.{◌≡◌, ℕ, suc, ◌+◌, ◌-◌, ◌<◌, ◌≤◌, cond, leb, List, [], ◌∷◌, ◌++◌, length, take, set, sym, refl, ap, ◌∙◌, append_assoc, arith}
 use Rattle.std.proofs.lemmas.Bool.{le-leb, cond-true}
-use Rattle.std.proofs.lemmas.List.{take_more_set, append-nil}
+use Rattle.std.proofs.lemmas.List.{take_more_set, append-nil, take-append-le}
 use Rattle.orders.specs.declared.Entry.{Entry}
 use Rattle.script.specs.Parse.{Got, got, bad, bind, entry, entries}
 
@@ -45,10 +45,11 @@ turn_more xs i n ws vs us e l h inv p =
     let one : suc (n - (i + 1)) ≡ n - i = omega arith in
     ap (λ es. after es (n - (i + 1)) us) (take_more_set xs i e h) ∙ after_more (take i xs) (n - (i + 1)) vs us e p ∙ ap (λ k. after (take i xs) k vs) one ∙ inv
 
-pub turn_end : (xs : List Entry) (i n : ℕ) (ws vs : List (List ℕ)) → i ≡ n → after (take i xs) (n - i) vs ≡ after [] n ws → got (take n xs) vs ≡ entries n ws
-turn_end xs i n ws vs e inv =
+pub turn_end : (xs ys : List Entry) (i n : ℕ) (ws vs : List (List ℕ)) → i ≡ n → length xs ≡ n → after (take i xs) (n - i) vs ≡ after [] n ws → got (take n (xs ++ ys)) vs ≡ entries n ws
+turn_end xs ys i n ws vs e l inv =
     let none : n - i ≡ 0 = omega arith in
-    ap (λ k. got (take k xs) vs) (sym e) ∙ sym (after-all (take i xs) vs) ∙ ap (λ k. after (take i xs) k vs) (sym none) ∙ inv ∙ after_none n ws
+    let front : take n (xs ++ ys) ≡ take i xs = take-append-le n xs ys (omega arith) ∙ ap (λ k. take k xs) (sym e) in
+    ap (λ es. got es vs) front ∙ sym (after-all (take i xs) vs) ∙ ap (λ k. after (take i xs) k vs) (sym none) ∙ inv ∙ after_none n ws
 
 pub few-entries : (n : ℕ) (ws : List (List ℕ)) (g : Got (List Entry)) → n ≤ 16 → g ≡ entries n ws → g ≡ cond (leb n 16) (entries n ws) bad
 few-entries n ws g h e = e ∙ sym (cond-true (leb n 16) (entries n ws) bad (le-leb n 16 h))

@@ -1,40 +1,18 @@
--- Words found by two scans: over spaces, then over a word.
-use Rattle.std.proofs.Common.{◌≡◌, ℕ, ◌+◌, ◌-◌, ◌<◌, ◌≤◌, false, eqb, List, [], ◌∷◌, ◌++◌, length, get_or, take, drop, sym, refl, ap, ◌∙◌, ⊎_elim, arith, length-drop, length-take}
-use Rattle.std.proofs.lemmas.List.{drop_more, drop_all, take_more, get_or-drop, at_drop_more}
-use Rattle.std.proofs.lemmas.Bool.{eq-eqb, ne_eqb, cases_lt, cond_both}
+-- Words found by two scans: for a byte that is no space, then for a space.
+use Rattle.std.proofs.Common.{◌≡◌, ℕ, suc, ◌-◌, ◌<◌, ◌≤◌, Bool, true, false, not, eqb, cond, ltb, List, [], ◌∷◌, ◌++◌, Some, None, unwrap_or, length, get_or, take, drop, ltb-false, sym, refl, ap, ◌∙◌, ⊎_elim, arith, add-zero, one-add, append_assoc, append-nil, get_or-drop, length-drop}
+use Rattle.std.specs.List.{list_all, position, position_or_len}
+use Rattle.std.proofs.lemmas.Bool.{cases_Bool, cond_both}
+use Rattle.std.proofs.lemmas.List.{drop_all, take_all}
+use Rattle.std.proofs.lemmas.List.Quantifiers.{position-Some}
+use Rattle.std.proofs.lemmas.List.Sums.{prefix_len-le-length}
 use Rattle.script.specs.Words.{closed, words_from, words}
-use Rattle.script.specs.Parse.{none}
+use Rattle.script.specs.Parse.{got, bad, word, none}
 
--- a space ends the word, and the words behind it are those from the space on
-pub from-space : (w bs : List ℕ) (i : ℕ) → i < length bs → get_or bs i 0 ≡ 32 → words_from w (drop i bs) ≡ closed w (words (drop i bs))
-unfolding words_from
-from-space w bs i h e =
-    let d = drop_more bs i 0 h in
-    let s = eq-eqb (get_or bs i 0) 32 e in
-    rw (d, s)
+abbrev pub is_space : ℕ → Bool
+is_space b = eqb b 32
 
-pub from_end : (w bs : List ℕ) (i : ℕ) → length bs ≤ i → words_from w (drop i bs) ≡ closed w (words (drop i bs))
-unfolding words_from
-from_end w bs i h = rw (drop_all i bs h)
-
--- any other byte goes on with it
-pub from_more : (w bs : List ℕ) (i : ℕ) → i < length bs → (get_or bs i 0 ≡ 32 → ⊥) → words_from w (drop i bs) ≡ words_from (w ++ get_or bs i 0 ∷ []) (drop (i + 1) bs)
-unfolding words_from
-from_more w bs i h n =
-    let s = ne_eqb (get_or bs i 0) 32 n in
-    at_drop_more (words_from w) bs i 0 h ∙ rw s
-
--- a space in front changes nothing
-pub skip-space : (bs : List ℕ) (i : ℕ) → i < length bs → get_or bs i 0 ≡ 32 → words (drop (i + 1) bs) ≡ words (drop i bs)
-unfolding words_from
-skip-space bs i h e =
-    let s = eq-eqb (get_or bs i 0) 32 e in
-    sym (at_drop_more (words_from []) bs i 0 h ∙ rw s)
-
--- where the scan over spaces came to the end there is no word
-pub none_left : (bs : List ℕ) (at r : ℕ) → words (drop r bs) ≡ words (drop at bs) → length bs ≤ r → words (drop at bs) ≡ []
-unfolding words_from
-none_left bs at r e h = sym e ∙ rw (drop_all r bs h)
+abbrev pub in_word : ℕ → Bool
+in_word b = not (eqb b 32)
 
 -- a word that has begun is there
 begun-some : (b : ℕ) (w bs : List ℕ) → none (words_from (b ∷ w) bs) ≡ false
@@ -42,49 +20,88 @@ unfolding words_from
 begun-some b w [] = refl
 begun-some b w (c ∷ bs) = cond_both (eqb c 32) (closed (b ∷ w) (words_from [] bs)) (words_from (b ∷ (w ++ c ∷ [])) bs) (λ ws. none ws ≡ false) (λ e. refl) (λ e. begun-some b (w ++ c ∷ []) bs)
 
-some_left : (bs : List ℕ) (r : ℕ) → r < length bs → (get_or bs r 0 ≡ 32 → ⊥) → none (words (drop r bs)) ≡ false
-some_left bs r h n = ap none (from_more [] bs r h n) ∙ begun-some (get_or bs r 0) [] (drop (r + 1) bs)
+-- spaces alone are no word
+pub all-spaces : (bs : List ℕ) → list_all is_space bs ≡ none (words bs)
+unfolding words_from
+all-spaces [] = refl
+all-spaces (b ∷ bs) = ⊎_elim (λ (e : eqb b 32 ≡ true). rw e (all-spaces bs)) (λ (e : eqb b 32 ≡ false). rw e (sym (begun-some b [] bs))) (cases_Bool (eqb b 32))
 
-pub done-is : (bs : List ℕ) (at r : ℕ) → r ≤ length bs → words (drop r bs) ≡ words (drop at bs) → (r < length bs → get_or bs r 0 ≡ 32 → ⊥) → eqb r (length bs) ≡ none (words (drop at bs))
-done-is bs at r h e f =
-    ⊎_elim
-    (λ (l : r < length bs). ne_eqb r (length bs) (λ q. omega arith) ∙ sym (ap none (sym e) ∙ some_left bs r l (f l)))
-    (λ (l : length bs ≤ r). eq-eqb r (length bs) (omega arith) ∙ sym (ap none (none_left bs at r e l)))
-    (cases_lt r (length bs))
+-- spaces in front change nothing
+skip-spaces : (bs : List ℕ) → words (drop (position_or_len in_word bs) bs) ≡ words bs
+unfolding words_from
+skip-spaces [] = refl
+skip-spaces (b ∷ bs) = ⊎_elim
+    (λ (e : eqb b 32 ≡ true). rw (e, one-add (position_or_len in_word bs)) (skip-spaces bs))
+    (λ (e : eqb b 32 ≡ false). let here : position_or_len in_word (b ∷ bs) ≡ 0 = rw e in ap (λ n. words (drop n (b ∷ bs))) here)
+    (cases_Bool (eqb b 32))
 
-pub past_same : (bs : List ℕ) (i : ℕ) → length bs ≤ i → words (drop (length bs) bs) ≡ words (drop i bs)
-past_same bs i h = ap words (drop_all (length bs) bs (omega arith) ∙ sym (drop_all i bs h))
+-- a space ends the word w
+space-ends : (w : List ℕ) (b : ℕ) (bs : List ℕ) → eqb b 32 ≡ true → words_from w (b ∷ bs) ≡ closed w (words (b ∷ bs))
+unfolding words_from
+space-ends w b bs e = rw e
 
-pub begun-word : (bs : List ℕ) (from : ℕ) → from < length bs → (get_or bs from 0 ≡ 32 → ⊥) → words (drop from bs) ≡ words_from (take (from + 1 - from) (drop from bs)) (drop (from + 1) bs)
-begun-word bs from h n =
-    let one : from + 1 - from ≡ 1 = omega arith in
-    from_more [] bs from h n ∙ sym (ap (λ k. words_from (take k (drop from bs)) (drop (from + 1) bs)) one ∙ ap (λ xs. words_from (take 1 xs) (drop (from + 1) bs)) (drop_more bs from 0 h))
+-- the bytes before the next space go on with the word w
+word-goes : (w bs : List ℕ) → words_from w bs ≡ closed (w ++ take (position_or_len is_space bs) bs) (words (drop (position_or_len is_space bs) bs))
+unfolding words_from
+word-goes w [] = ap (λ v. closed v []) (sym (append-nil w))
+word-goes w (b ∷ bs) = ⊎_elim
+    (λ (e : eqb b 32 ≡ true).
+    let here : position_or_len is_space (b ∷ bs) ≡ 0 = rw e in
+    space-ends w b bs e ∙ ap (λ v. closed v (words (b ∷ bs))) (sym (append-nil w)) ∙ ap (λ n. closed (w ++ take n (b ∷ bs)) (words (drop n (b ∷ bs)))) (sym here))
+    (λ (e : eqb b 32 ≡ false).
+    let n : ℕ = position_or_len is_space bs in
+    let more : position_or_len is_space (b ∷ bs) ≡ suc n = rw e (one-add n) in
+    let on : words_from w (b ∷ bs) ≡ words_from (w ++ b ∷ []) bs = rw e in
+    on ∙ word-goes (w ++ b ∷ []) bs ∙ ap (λ v. closed v (words (drop n bs))) (append_assoc w (b ∷ []) (take n bs)) ∙ ap (λ k. closed (w ++ take k (b ∷ bs)) (words (drop k (b ∷ bs)))) (sym more))
+    (cases_Bool (eqb b 32))
 
--- one byte more of the word that starts at `from`
-pub more-word : (bs : List ℕ) (from i : ℕ) → from < i → i < length bs → (get_or bs i 0 ≡ 32 → ⊥) →
-    words_from (take (i - from) (drop from bs)) (drop i bs) ≡ words_from (take (i + 1 - from) (drop from bs)) (drop (i + 1) bs)
-more-word bs from i l h n =
-    let next : i + 1 - from ≡ i - from + 1 = omega arith in
-    let there : from + (i - from) ≡ i = omega arith in
-    let within : i - from < length (drop from bs) = simp length-drop (omega arith) in
-    let grown : take (i + 1 - from) (drop from bs) ≡ take (i - from) (drop from bs) ++ get_or bs i 0 ∷ [] =
-    ap (λ k. take k (drop from bs)) next ∙ take_more (drop from bs) (i - from) 0 within ∙ ap (λ b. take (i - from) (drop from bs) ++ b ∷ []) (get_or-drop from bs (i - from) 0 ∙ ap (λ k. get_or bs k 0) there) in
-    from_more (take (i - from) (drop from bs)) bs i h n ∙ ap (λ w. words_from w (drop (i + 1) bs)) (sym grown)
+closed_some : (w : List ℕ) (ws : List (List ℕ)) → 0 < length w → closed w ws ≡ w ∷ ws
+closed_some [] ws h = absurd (omega arith)
+closed_some (b ∷ w) ws h = refl
 
--- bytes from `from` to a place behind it are a word
-closed-part : (bs : List ℕ) (from i : ℕ) (ws : List (List ℕ)) → from < i → i ≤ length bs → closed (take (i - from) (drop from bs)) ws ≡ take (i - from) (drop from bs) ∷ ws
-closed-part bs from i ws l h = closed_some (take (i - from) (drop from bs)) ws (simp (length-take, length-drop) (omega arith))
+-- a word stands in front
+front-word : (bs : List ℕ) → 0 < length bs → in_word (get_or bs 0 0) ≡ true → words bs ≡ take (position_or_len is_space bs) bs ∷ words (drop (position_or_len is_space bs) bs)
+front-word [] h e = absurd (omega arith)
+front-word (b ∷ bs) h e =
+    let n : ℕ = position_or_len is_space bs in
+    let more : position_or_len is_space (b ∷ bs) ≡ suc n = rw e (one-add n) in
+    word-goes [] (b ∷ bs) ∙ ap (λ k. closed (take k (b ∷ bs)) (words (drop k (b ∷ bs)))) more ∙ ap (λ k. take k (b ∷ bs) ∷ words (drop k (b ∷ bs))) (sym more)
+
+-- what the library's position says: the place that it found, or that all of them were looked at
+found : (p : ℕ → Bool) (bs : List ℕ) (i : ℕ) → position p bs ≡ Some i → position_or_len p bs ≡ i
+found p bs i e = from (ltb (position_or_len p bs) (length bs)) e
   where
-    closed_some : (w : List ℕ) (ws : List (List ℕ)) → 0 < length w → closed w ws ≡ w ∷ ws
-    closed_some [] ws h = absurd (omega arith)
-    closed_some (b ∷ w) ws h = refl
+    from : (b : Bool) → cond b (Some (position_or_len p bs)) None ≡ Some i → position_or_len p bs ≡ i
+    from true e = cc
+    from false e = cc
 
-pub space-ends : (bs : List ℕ) (from i : ℕ) → from < i → i < length bs → get_or bs i 0 ≡ 32 → words (drop from bs) ≡ words_from (take (i - from) (drop from bs)) (drop i bs) →
-    words (drop from bs) ≡ take (i - from) (drop from bs) ∷ words (drop i bs)
-space-ends bs from i l h e inv = inv ∙ from-space (take (i - from) (drop from bs)) bs i h e ∙ closed-part bs from i (words (drop i bs)) l (omega arith)
+not_found : (p : ℕ → Bool) (bs : List ℕ) → position p bs ≡ None → length bs ≤ position_or_len p bs
+not_found p bs e = from (ltb (position_or_len p bs) (length bs)) refl e
+  where
+    from : (b : Bool) → ltb (position_or_len p bs) (length bs) ≡ b → cond b (Some (position_or_len p bs)) None ≡ None → length bs ≤ position_or_len p bs
+    from true t e = absurd cc
+    from false t e = ltb-false _ _ t
 
-pub end-ends : (bs : List ℕ) (from i : ℕ) → from < i → i ≤ length bs → length bs ≤ i → words (drop from bs) ≡ words_from (take (i - from) (drop from bs)) (drop i bs) →
-    words (drop from bs) ≡ take (length bs - from) (drop from bs) ∷ words (drop (length bs) bs)
-end-ends bs from i l h k inv =
-    let here : i ≡ length bs = omega arith in
-    inv ∙ from_end (take (i - from) (drop from bs)) bs i k ∙ closed-part bs from i (words (drop i bs)) l h ∙ ap (λ n. take (n - from) (drop from bs) ∷ words (drop n bs)) here
+or_len : (p : ℕ → Bool) (bs : List ℕ) → unwrap_or (position p bs) (length bs) ≡ position_or_len p bs
+or_len p bs = ⊎_elim
+    (λ (e : ltb (position_or_len p bs) (length bs) ≡ true). rw e)
+    (λ (e : ltb (position_or_len p bs) (length bs) ≡ false).
+    let all : length bs ≡ position_or_len p bs = omega (arith, ltb-false _ _ e, prefix_len-le-length (λ b. not (p b)) bs) in
+    rw e all)
+    (cases_Bool (ltb (position_or_len p bs) (length bs)))
+
+-- no byte but spaces, or a word from place i on, n bytes long
+pub no_word : (bs : List ℕ) → position in_word bs ≡ None → bad ≡ word (words bs)
+unfolding words_from
+no_word bs e =
+    let none : words bs ≡ [] = sym (skip-spaces bs) ∙ ap words (drop_all (position_or_len in_word bs) bs (not_found in_word bs e)) in
+    sym (ap word none)
+
+pub word_here : (bs rest : List ℕ) (i n : ℕ) → position in_word bs ≡ Some i → rest ≡ take (length bs - i) (drop i bs) → n ≡ unwrap_or (position is_space rest) (length rest) → got (take n rest) (words (drop n rest)) ≡ word (words bs)
+word_here bs rest i n e r f =
+    let at = position-Some in_word bs i 0 e in
+    let tail : rest ≡ drop i bs = r ∙ take_all (length bs - i) (drop i bs) (simp length-drop (omega arith)) in
+    let some : 0 < length rest = rw tail (simp length-drop (omega (arith, at.0))) in
+    let first : in_word (get_or rest 0 0) ≡ true = ap (λ xs. in_word (get_or xs 0 0)) tail ∙ ap in_word (get_or-drop i bs 0 0 ∙ ap (λ k. get_or bs k 0) (add-zero i)) ∙ at.1 in
+    let here : words bs ≡ words rest = sym (skip-spaces bs) ∙ ap (λ k. words (drop k bs)) (found in_word bs i e) ∙ ap words (sym tail) in
+    ap (λ k. got (take k rest) (words (drop k rest))) (f ∙ or_len is_space rest) ∙ sym (ap word (here ∙ front-word rest some first))

@@ -1,19 +1,18 @@
 -- What the readers' answers stand for. Assumes nothing.
-use Rattle.std.specs.Prelude.{ℕ, List, take, drop, Option}
+use Rattle.std.specs.Prelude.{ℕ, List, take, Option}
 use Rattle.std.specs.Borrow.{Bor}
 use Rattle.protocol.specs.declared.Name.{Name}
 use Rattle.orders.specs.declared.Entry.{Entry}
 use Rattle.orders.specs.declared.Order.{Order as Slots}
 use Rattle.orders.specs.Order.{Order}
 use Rattle.script.specs.declared.NameWords.{NameWords}
-use Rattle.script.specs.declared.Entries.{Entries}
 use Rattle.script.specs.declared.words.Words.{Words}
 use Rattle.script.specs.Words.{words}
 use Rattle.script.specs.Parse.{Got, given}
 
 -- the words that are not yet taken
 abbrev pub left : Words → List (List ℕ)
-left w = words (drop w.at w.line.now)
+left w = words w.rest.now
 
 -- a reader's answer, with the words left after it
 abbrev pub read : {A B : Type 0} → (A → B) → Option A → Words → Got B
@@ -26,8 +25,9 @@ bytes_of r = r.now
 abbrev pub named : NameWords → Name
 named m = record { home = m.home; start = m.start; number = m.number }
 
-abbrev pub filled : Entries → List Entry
-filled e = take e.count e.all
+-- so many entries from the front on
+abbrev pub filled : List Entry → ℕ → List Entry
+filled es n = take n es
 
 -- the order that is written: what stands behind the counts of the arrays is no part of it
 abbrev pub order_of : NameWords → Slots → Order

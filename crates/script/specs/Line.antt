@@ -1,27 +1,29 @@
 -- What a line says. Assumes nothing.
-use Rattle.std.specs.Prelude.{ℕ, Bool, false, cond, List, [], ◌∷◌, codes, ◌==◌, nat_lt}
+use Rattle.std.specs.Prelude.{ℕ, Bool, false, cond, List, [], ◌∷◌, Some, None, Ok, Err, Option, Result, codes, ◌==◌, nat_lt}
 use Rattle.std.specs.Str.{bytes_eq}
 use Rattle.protocol.specs.declared.Name.{Name}
+use Rattle.orders.specs.declared.Refusal.{Refusal}
+use Rattle.orders.specs.declared.Refusal.TheVariants.{BadForm}
 use Rattle.script.specs.Words.{words}
 use Rattle.script.specs.Parse.{Got, got, bad, bind, none, word, number, name, order}
-use Rattle.script.specs.Meaning.{Meaning, skip, houses, submit, hold, vote, rule, give_up, answer, learn, sync, stop, show, out_of_form}
+use Rattle.script.specs.Meaning.{Meaning, skip, houses, submit, hold, vote, rule, give_up, answer, learn, sync, stop, show}
 use Rattle.script.specs.declared.read.Keyword.{Keyword}
-use Rattle.script.specs.declared.read.Keyword.TheVariants.{Houses, Submit, Hold, Vote, Rule, GiveUp, Answer, Learn, Sync, Stop, Show, Other}
+use Rattle.script.specs.declared.read.Keyword.TheVariants.{Houses, Submit, Hold, Vote, Rule, GiveUp, Answer, Learn, Sync, Stop, Show}
 
--- the command that a line's first word names
-abbrev pub keyword : List ℕ → Keyword
+-- the command that a line's first word names; none, if it is no keyword
+abbrev pub keyword : List ℕ → Option Keyword
 keyword w =
-    cond (bytes_eq w (codes "houses")) Houses
-    (cond (bytes_eq w (codes "submit")) Submit
-    (cond (bytes_eq w (codes "hold")) Hold
-    (cond (bytes_eq w (codes "vote")) Vote
-    (cond (bytes_eq w (codes "rule")) Rule
-    (cond (bytes_eq w (codes "giveup")) GiveUp
-    (cond (bytes_eq w (codes "answer")) Answer
-    (cond (bytes_eq w (codes "learn")) Learn
-    (cond (bytes_eq w (codes "sync")) Sync
-    (cond (bytes_eq w (codes "stop")) Stop
-    (cond (bytes_eq w (codes "show")) Show Other))))))))))
+    cond (bytes_eq w (codes "houses")) (Some Houses)
+    (cond (bytes_eq w (codes "submit")) (Some Submit)
+    (cond (bytes_eq w (codes "hold")) (Some Hold)
+    (cond (bytes_eq w (codes "vote")) (Some Vote)
+    (cond (bytes_eq w (codes "rule")) (Some Rule)
+    (cond (bytes_eq w (codes "giveup")) (Some GiveUp)
+    (cond (bytes_eq w (codes "answer")) (Some Answer)
+    (cond (bytes_eq w (codes "learn")) (Some Learn)
+    (cond (bytes_eq w (codes "sync")) (Some Sync)
+    (cond (bytes_eq w (codes "stop")) (Some Stop)
+    (cond (bytes_eq w (codes "show")) (Some Show) None))))))))))
 
 -- H NAME
 abbrev pub house_name : List (List ℕ) → Got (ℕ × Name)
@@ -40,23 +42,27 @@ parts Learn ws = bind (number ws) (λ h ws. bind (number ws) (λ b ws. cond (nat
 parts Sync ws = bind (number ws) (λ h ws. got (sync h) ws)
 parts Stop ws = bind (number ws) (λ h ws. bind (number ws) (λ k ws. got (stop h k) ws))
 parts Show ws = got show ws
-parts Other ws = bad
+
+-- what a line says, by the command that its first word names
+abbrev pub asked : Option Keyword → List (List ℕ) → Got Meaning
+asked None ws = bad
+asked (Some k) ws = parts k ws
 
 -- no word may be left
-abbrev pub whole : Got Meaning → Meaning
-whole (got m ws) = cond (none ws) m out_of_form
-whole bad = out_of_form
+abbrev pub whole : Got Meaning → Result Meaning Refusal
+whole (got m ws) = cond (none ws) (Ok m) (Err BadForm)
+whole bad = Err BadForm
 
 -- the first word and those after it; a line without words is blank
-abbrev pub spoken : Got (List ℕ) → Meaning
-spoken (got w ws) = whole (parts (keyword w) ws)
-spoken bad = skip
+abbrev pub spoken : Got (List ℕ) → Result Meaning Refusal
+spoken (got w ws) = whole (asked (keyword w) ws)
+spoken bad = Ok skip
 
 -- a comment's first byte is 35, a '#'
 abbrev pub is_comment : List ℕ → Bool
 is_comment [] = false
 is_comment (b ∷ bs) = b == 35
 
--- THE LINE: what its bytes say
-abbrev pub line : List ℕ → Meaning
-line bs = cond (is_comment bs) skip (spoken (word (words bs)))
+-- THE LINE: what its bytes say; or they are out of form
+abbrev pub line : List ℕ → Result Meaning Refusal
+line bs = cond (is_comment bs) (Ok skip) (spoken (word (words bs)))

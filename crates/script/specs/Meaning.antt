@@ -1,6 +1,7 @@
 -- What a line read by the code stands for: its order as lists, its name with any number for a home. Assumes nothing.
-use Rattle.std.specs.Prelude.{ℕ, Bool}
+use Rattle.std.specs.Prelude.{ℕ, Bool, Ok, Err, Result}
 use Rattle.protocol.specs.declared.Name.{Name}
+use Rattle.orders.specs.declared.Refusal.{Refusal}
 use Rattle.orders.specs.Order.{Order}
 use Rattle.script.specs.declared.NameWords.{NameWords}
 use Rattle.script.specs.declared.Line.{Line}
@@ -20,7 +21,6 @@ pub data Meaning : Type 0 where
   sync : (house : ℕ) → Meaning
   stop : (house kept : ℕ) → Meaning
   show : Meaning
-  out_of_form : Meaning
 
 abbrev pub meaning : Line → Meaning
 meaning code.Skip = skip
@@ -35,7 +35,11 @@ meaning (code.Learn h b m) = learn h b (named m)
 meaning (code.Sync h) = sync h
 meaning (code.Stop h k) = stop h k
 meaning code.Show = show
-meaning code.Bad = out_of_form
+
+-- a line, or why it is refused
+abbrev pub said : Result Line Refusal → Result Meaning Refusal
+said (Ok l) = Ok (meaning l)
+said (Err f) = Err f
 
 -- a house and a name
 abbrev pub placed : ℕ × NameWords → ℕ × Name

@@ -2,7 +2,7 @@
 use Rattle.std.specs.Prelude.{ℕ, Bool, true, ◌&&◌, nat_lt}
 use Rattle.protocol.specs.Model.{houses_ok, name_ok}
 use Rattle.orders.specs.Order.{order_ok}
-use Rattle.script.specs.Meaning.{Meaning, skip, houses, submit, hold, vote, rule, give_up, answer, learn, sync, stop, show, out_of_form}
+use Rattle.script.specs.Meaning.{Meaning, skip, houses, submit, hold, vote, rule, give_up, answer, learn, sync, stop, show}
 
 -- each house is one of the n, and what is named may be a name or an order there
 abbrev pub fits : ℕ → Meaning → Bool
@@ -18,7 +18,6 @@ fits n (learn h b m) = nat_lt h n && name_ok n m
 fits n (sync h) = nat_lt h n
 fits n (stop h k) = nat_lt h n
 fits n show = true
-fits n out_of_form = true
 
 -- n may be a number of houses, too
 abbrev pub in_range : ℕ → Meaning → Bool

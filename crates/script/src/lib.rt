@@ -1,9 +1,7 @@
 // Scripts: one line of bytes read into the command that it is.
 #![tactic(auto)]
 
-ghost use Rattle.std.specs.Prelude.{◌≡◌, ◌≤◌, length};
-
-use orders::{Entry, Order};
+use orders::Order;
 
 pub mod range;
 pub mod read;
@@ -13,19 +11,12 @@ pub mod words;
 
 // An order's name as it is written. A number of 32 bits stands where the name has a byte for its home, so that a home
 // that is none is out of range, and not out of form.
+// Not a Name<H>: each definition that speaks of names would take the type of the home too.
 #[derive(Clone, Copy)]
 pub struct NameWords {
     pub home: u32,
     pub start: u32,
     pub number: u32,
-}
-
-// The entries of one kind that an order has, in the front of an array.
-#[derive(Clone, Copy)]
-pub struct Entries {
-    pub all: [Entry; 16],
-    pub count: usize,
-    ghost few: { (count ≤ 16) × (length all ≡ 16) },
 }
 
 // What a line asks for. Houses are numbers as they are written, within range or not.
@@ -46,6 +37,4 @@ pub enum Line {
     // the house, and how many of the bytes written since the last sync are kept
     Stop(u32, u32),
     Show,
-    // none of these
-    Bad,
 }

@@ -1,12 +1,12 @@
 // A line read whole: its first word says which command it is.
 ghost use Rattle.std.specs.Prelude.{◌≡◌};
-ghost use Rattle.std.specs.Str.{bytes_eq};
 ghost use Rattle.script.specs.Answers.{left, read};
-ghost use Rattle.script.specs.Line.{keyword as keyword_of, is_comment, house_name, parts, line as line_of};
-ghost use Rattle.script.specs.Meaning.{placed, meaning};
+ghost use Rattle.script.specs.Line.{keyword, is_comment, house_name, parts, line as line_of};
+ghost use Rattle.script.specs.Meaning.{placed, meaning, said};
 
 use crate::words::Words;
 use crate::{Line, NameWords};
+use orders::Refusal;
 
 #[derive(Clone, Copy)]
 enum Keyword {
@@ -21,49 +21,34 @@ enum Keyword {
     Sync,
     Stop,
     Show,
-    Other,
 }
 
-fn is(word: &[u8], text: &[u8]) -> bool
-    ensures { result ≡ bytes_eq word.now text.now }
-{
-    word == text
-}
-
-fn keyword_of(word: &[u8]) -> Keyword
-    ensures { result ≡ keyword_of word.now }
-{
-    if is(word, b"houses") {
-        Keyword::Houses
-    } else if is(word, b"submit") {
-        Keyword::Submit
-    } else if is(word, b"hold") {
-        Keyword::Hold
-    } else if is(word, b"vote") {
-        Keyword::Vote
-    } else if is(word, b"rule") {
-        Keyword::Rule
-    } else if is(word, b"giveup") {
-        Keyword::GiveUp
-    } else if is(word, b"answer") {
-        Keyword::Answer
-    } else if is(word, b"learn") {
-        Keyword::Learn
-    } else if is(word, b"sync") {
-        Keyword::Sync
-    } else if is(word, b"stop") {
-        Keyword::Stop
-    } else if is(word, b"show") {
-        Keyword::Show
-    } else {
-        Keyword::Other
+impl Keyword {
+    // The keyword that the word is.
+    fn of(word: &[u8]) -> Option<Keyword>
+        ensures { result ≡ keyword word.now }
+    {
+        match word {
+            b"houses" => Some(Keyword::Houses),
+            b"submit" => Some(Keyword::Submit),
+            b"hold" => Some(Keyword::Hold),
+            b"vote" => Some(Keyword::Vote),
+            b"rule" => Some(Keyword::Rule),
+            b"giveup" => Some(Keyword::GiveUp),
+            b"answer" => Some(Keyword::Answer),
+            b"learn" => Some(Keyword::Learn),
+            b"sync" => Some(Keyword::Sync),
+            b"stop" => Some(Keyword::Stop),
+            b"show" => Some(Keyword::Show),
+            _ => None,
+        }
     }
 }
 
 fn is_comment(line: &[u8]) -> bool
     ensures { result ≡ is_comment line.now }
 {
-    !line.is_empty() && line[0] == b'#'
+    matches!(line, [b'#', ..])
 }
 
 // H NAME
@@ -95,12 +80,13 @@ fn learn(words: &mut Words<'_>) -> Option<Line>
     ensures { read meaning result words.new ≡ parts Keyword.Learn (left words.old) }
 {
     let house = words.number()?;
-    let bit = words.number()?;
-    if bit > 1 {
-        return None;
-    }
+    let yes = match words.number()? {
+        0 => false,
+        1 => true,
+        _ => return None,
+    };
     let name = words.name()?;
-    Some(Line::Learn(house, bit == 1, name))
+    Some(Line::Learn(house, yes, name))
 }
 
 fn stop(words: &mut Words<'_>) -> Option<Line>
@@ -111,50 +97,40 @@ fn stop(words: &mut Words<'_>) -> Option<Line>
     Some(Line::Stop(house, kept))
 }
 
-// What the words behind a keyword say.
+// What the words behind a keyword say. A match and no closures: most have parts of their own, and those with a house and a name share `house_name`.
 fn command(keyword: Keyword, words: &mut Words<'_>) -> Option<Line>
     ensures { read meaning result words.new ≡ parts keyword (left words.old) }
 {
     match keyword {
-        Keyword::Houses => Some(Line::Houses(words.number()?)),
+        Keyword::Houses => words.number().map(Line::Houses),
         Keyword::Submit => submit(words),
-        Keyword::Hold => {
-            let (house, name) = house_name(words)?;
-            Some(Line::Hold(house, name))
-        }
+        Keyword::Hold => house_name(words).map(|(house, name)| Line::Hold(house, name)),
         Keyword::Vote => vote(words),
-        Keyword::Rule => {
-            let (house, name) = house_name(words)?;
-            Some(Line::Rule(house, name))
-        }
-        Keyword::GiveUp => {
-            let (house, name) = house_name(words)?;
-            Some(Line::GiveUp(house, name))
-        }
-        Keyword::Answer => {
-            let (house, name) = house_name(words)?;
-            Some(Line::Answer(house, name))
-        }
+        Keyword::Rule => house_name(words).map(|(house, name)| Line::Rule(house, name)),
+        Keyword::GiveUp => house_name(words).map(|(house, name)| Line::GiveUp(house, name)),
+        Keyword::Answer => house_name(words).map(|(house, name)| Line::Answer(house, name)),
         Keyword::Learn => learn(words),
-        Keyword::Sync => Some(Line::Sync(words.number()?)),
+        Keyword::Sync => words.number().map(Line::Sync),
         Keyword::Stop => stop(words),
         Keyword::Show => Some(Line::Show),
-        Keyword::Other => None,
     }
 }
 
-pub fn read_line(line: &[u8]) -> Line
-    ensures { meaning result ≡ line_of line.now }
+// A line that is none of these is refused as out of form.
+pub fn read_line(line: &[u8]) -> Result<Line, Refusal>
+    ensures { said result ≡ line_of line.now }
 {
     if is_comment(line) {
-        return Line::Skip;
+        return Ok(Line::Skip);
     }
     let mut words = Words::new(line);
     let Some(first) = words.word() else {
-        return Line::Skip;
+        return Ok(Line::Skip);
     };
-    let Some(asked) = command(keyword_of(first), &mut words) else {
-        return Line::Bad;
-    };
-    if words.is_done() { asked } else { Line::Bad }
+    let keyword = Keyword::of(first).ok_or(Refusal::BadForm)?;
+    let asked = command(keyword, &mut words).ok_or(Refusal::BadForm)?;
+    if !words.is_done() {
+        return Err(Refusal::BadForm);
+    }
+    Ok(asked)
 }

@@ -1,20 +1,21 @@
 // Lines of each kind, and lines that are none.
 use crate::Line;
 use crate::read::read_line;
+use orders::Refusal;
 use std::test::Fail;
 
-fn all_bad(lines: &[&[u8]]) -> bool {
-    for line in lines {
-        if !matches!(read_line(line), Line::Bad) {
-            return false;
-        }
-    }
-    true
+fn is_bad(line: &[u8]) -> bool {
+    matches!(read_line(line), Err(Refusal::BadForm))
+}
+
+// Whether the line, if it is in form, is within the limits of two houses.
+fn in_range(line: &[u8]) -> Option<bool> {
+    Some(read_line(line).ok()?.in_range(2))
 }
 
 #[test]
 fn spaces_separate(rt: HostRuntime) -> Result<(), Fail> {
-    let Line::Vote(house, voter, name) = read_line(b"  vote 1   0 300 007 4294967295 ") else {
+    let Ok(Line::Vote(house, voter, name)) = read_line(b"  vote 1   0 300 007 4294967295 ") else {
         return Err(Fail::new("no vote"));
     };
     assert_eq!(rt; house, 1);
@@ -27,7 +28,7 @@ fn spaces_separate(rt: HostRuntime) -> Result<(), Fail> {
 
 #[test]
 fn order_is_read(rt: HostRuntime) -> Result<(), Fail> {
-    let Line::Submit(_, name, order) = read_line(b"submit 0 0 1 2 1 5 3 2 5 2 65541 1") else {
+    let Ok(Line::Submit(_, name, order)) = read_line(b"submit 0 0 1 2 1 5 3 2 5 2 65541 1") else {
         return Err(Fail::new("no submit"));
     };
     let (seen, second_key) = (order.reads[0].amount, order.writes[1].key);
@@ -41,26 +42,25 @@ fn order_is_read(rt: HostRuntime) -> Result<(), Fail> {
 
 #[test]
 fn out_of_form(rt: HostRuntime) {
-    assert!(rt;
-        all_bad(&[
-            b"show\r",
-            b"\t",
-            b"sync 4294967296",
-            b"sync +1",
-            b"sync 1 1",
-            b"learn 0 2 0 1 0",
-            b" # no comment",
-            b"submit 0 0 1 0 17",
-        ],)
-    );
-    assert!(rt; matches!(read_line(b"# \xff"), Line::Skip));
-    assert!(rt; matches!(read_line(b"   "), Line::Skip));
+    let bad: [&[u8]; 8] = [
+        b"show\r",
+        b"\t",
+        b"sync 4294967296",
+        b"sync +1",
+        b"sync 1 1",
+        b"learn 0 2 0 1 0",
+        b" # no comment",
+        b"submit 0 0 1 0 17",
+    ];
+    assert!(rt; bad.iter().all(|line| is_bad(line)));
+    assert!(rt; matches!(read_line(b"# \xff"), Ok(Line::Skip)));
+    assert!(rt; matches!(read_line(b"   "), Ok(Line::Skip)));
 }
 
 #[test]
 fn limits_are_apart_from_form(rt: HostRuntime) {
-    assert!(rt; read_line(b"hold 1 0 1 0").in_range(2));
-    assert!(rt; !read_line(b"hold 2 0 1 0").in_range(2));
-    assert!(rt; !read_line(b"hold 1 256 1 0").in_range(2));
-    assert!(rt; !read_line(b"submit 0 0 1 0 0 1 4096 1").in_range(2));
+    assert_eq!(rt; in_range(b"hold 1 0 1 0"), Some(true));
+    assert_eq!(rt; in_range(b"hold 2 0 1 0"), Some(false));
+    assert_eq!(rt; in_range(b"hold 1 256 1 0"), Some(false));
+    assert_eq!(rt; in_range(b"submit 0 0 1 0 0 1 4096 1"), Some(false));
 }
