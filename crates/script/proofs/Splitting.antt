@@ -55,10 +55,6 @@ word-goes w (b ∷ bs) = ⊎_elim
     on ∙ word-goes (w ++ b ∷ []) bs ∙ ap (λ v. closed v (words (drop n bs))) (append_assoc w (b ∷ []) (take n bs)) ∙ ap (λ k. closed (w ++ take k (b ∷ bs)) (words (drop k (b ∷ bs)))) (sym more))
     (cases_Bool (eqb b 32))
 
-closed_some : (w : List ℕ) (ws : List (List ℕ)) → 0 < length w → closed w ws ≡ w ∷ ws
-closed_some [] ws h = absurd (omega arith)
-closed_some (b ∷ w) ws h = refl
-
 -- a word stands in front
 front-word : (bs : List ℕ) → 0 < length bs → in_word (get_or bs 0 0) ≡ true → words bs ≡ take (position_or_len is_space bs) bs ∷ words (drop (position_or_len is_space bs) bs)
 front-word [] h e = absurd (omega arith)
