@@ -1,8 +1,10 @@
 // Plays a script from standard input, and prints an answer for each of its lines.
 #![tactic(auto)]
 
+mod lines;
 mod rehearsal;
 
+use lines::Lines;
 use orders::Refusal;
 use rehearsal::{Answer, State};
 use std::io;
@@ -33,10 +35,9 @@ fn print<W: Write>(
     }
 }
 
-// A last newline has an empty line behind it, which is passed over.
 fn play<W: Write>(out: &mut W, script: &[u8]) -> io::Result<()> {
     let mut state = State { houses: None };
-    for (i, line) in script.split(|b| *b == b'\n').enumerate() {
+    for (i, line) in Lines::new(script).enumerate() {
         let answer = state.take(line);
         print(out, i + 1, state, answer)?;
     }
