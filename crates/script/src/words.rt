@@ -8,14 +8,21 @@ use crate::NameWords;
 use orders::{Entry, MAX_ENTRIES, NO_ENTRIES, Order};
 
 // The number that a word of decimal digits writes, if it fits 32 bits.
+// Not `parse`: it takes a text, so that each word would be gone over once more, and a plus in front of the digits.
 fn decimal(word: &[u8]) -> Option<u32>
     ensures { result ≡ numeral word.now }
 {
-    // parse takes a plus in front
-    if let [b'+', ..] = word {
+    if word.is_empty() {
         return None;
     }
-    std::str::from_utf8(word).ok()?.parse().ok()
+    let mut value: u32 = 0;
+    for b in word {
+        if !b.is_ascii_digit() {
+            return None;
+        }
+        value = value.checked_mul(10)?.checked_add(u32::from(*b - b'0'))?;
+    }
+    Some(value)
 }
 
 // The words that are not yet taken.

@@ -1,18 +1,32 @@
-use Rattle.std.proofs.Common.{sym, ◌∙◌, arith, rules, get_or, ◌≢◌}
-use Rattle.std.specs.Str.{IsUtf8}
-use Rattle.script.proofs.Digits.{plus-none, no_text-none, parse-decimal}
+use Rattle.std.proofs.Common.{◌≡◌, ◌+◌, ◌-◌, ◌*◌, ◌<◌, length, get_or, drop, sym, ap, ◌∙◌, arith}
+use Rattle.std.proofs.lemmas.Bool.{eqb-false}
+use Rattle.script.proofs.Digits.{digit-more, digit-none, too_large, digits-end, some_word}
+use Rattle.script.specs.Words.{decimal_from}
 use Rattle.script.proofs.words.decimal.Goals as goal
-use Rattle.script.proofs.words.decimal.Goals.{then-word-lt1, else-word-lt1+in_default-1}
 
-pub returns-in-43 : goal.returns-in-43
-returns-in-43 c = sym (plus-none c.args.word.now (omega arith) (omega arith))
+pub returns-then-not-is_ascii_digit : goal.returns-then-not-is_ascii_digit
+returns-then-not-is_ascii_digit c =
+    let some : 0 < length c.args.word.now = omega arith in
+    sym (some_word c.args.word.now some ∙ sym c.loop-b.invariant.1 ∙ digit-none c.loop-b.value c.args.word.now c.loop-b.b-index c.loop-b-test.true (sym c.if-not-is_ascii_digit.ensures.value))
 
-pub returns-in_err-ok : goal.returns-in_err-ok
-returns-in_err-ok c =
-    let not_text : ¬ (IsUtf8 c.args.word.now) = search rules in
-    c.from_residual.ensures ∙ sym (no_text-none c.args.word.now not_text)
+pub returns-in_err-checked_mul : goal.returns-in_err-checked_mul
+returns-in_err-checked_mul c =
+    let some : 0 < length c.args.word.now = omega arith in
+    let large : 4294967295 < c.loop-b.value * 10 + (get_or c.args.word.now c.loop-b.b-index 0 - 48) = omega (arith, c.in_err-checked_mul.ensures) in
+    c.from_residual.ensures ∙ sym (some_word c.args.word.now some ∙ sym c.loop-b.invariant.1 ∙ digit-more c.loop-b.value c.args.word.now c.loop-b.b-index c.loop-b-test.true (sym c.if-not-is_ascii_digit.ensures.value) ∙ too_large _ _ large)
+
+pub returns-in_err-value : goal.returns-in_err-value
+returns-in_err-value c =
+    let some : 0 < length c.args.word.now = omega arith in
+    let large : 4294967295 < c.loop-b.value * 10 + (get_or c.args.word.now c.loop-b.b-index 0 - 48) = omega (arith, c.in_err-value.ensures, c.in_ok-checked_mul.ensures) in
+    c.from_residual-in_err-value.ensures ∙ sym (some_word c.args.word.now some ∙ sym c.loop-b.invariant.1 ∙ digit-more c.loop-b.value c.args.word.now c.loop-b.b-index c.loop-b-test.true (sym c.if-not-is_ascii_digit.ensures.value) ∙ too_large _ _ large)
+
+pub loop-b-preserved : goal.loop-b-preserved
+loop-b-preserved c =
+    let same : c.in_ok-value.value ≡ c.loop-b.value * 10 + (get_or c.args.word.now c.loop-b.b-index 0 - 48) = omega (arith, c.in_ok-value.ensures, c.in_ok-checked_mul.ensures) in
+    (omega (arith, c.in_ok-value.ensures), ap (λ v. decimal_from v (drop (c.loop-b.b-index + 1) c.args.word.now)) same ∙ sym (digit-more c.loop-b.value c.args.word.now c.loop-b.b-index c.loop-b-test.true (sym c.if-not-is_ascii_digit.ensures.value)) ∙ c.loop-b.invariant.1)
 
 pub returns : goal.returns
 returns c =
-    let n : get_or c.args.word.now 0 0 ≢ 43 = elim c.if-word-lt1.branch [ then-word-lt1 w ↦ search rules | else-word-lt1+in_default-1 w ↦ search rules ] in
-    c.ok-2.ensures.value ∙ parse-decimal c.args.word.now c.parse.result n (search rules)
+    let some : 0 < length c.args.word.now = omega (arith, eqb-false (length c.args.word.now) 0 (sym c.if-is_empty.ensures)) in
+    sym (some_word c.args.word.now some ∙ sym c.loop-b.invariant.1 ∙ digits-end c.loop-b.value c.args.word.now c.loop-b.b-index c.loop-b-test.false c.loop-b.invariant.0)
