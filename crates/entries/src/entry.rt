@@ -4,16 +4,34 @@ ghost use Rattle.orders.specs.Order.{touches, meets, in_house, as_said, seen_her
 
 use orders::Entry;
 
+// From so many entries on they are searched by fours.
+const MANY: usize = 8;
+
+// Whether an entry has the key: one is looked at after the other, up to the first that has.
+fn one_touches_key(key: u32, entries: &[Entry]) -> bool
+    ensures { result ≡ touches key entries.now }
+{
+    entries.iter().any(|e| e.key == key)
+}
+
+// Whether one of the four has the key: all of them are looked at, with no jump between.
+fn four_touch_key(key: u32, four: &[Entry; 4]) -> bool
+    ensures { result ≡ touches key four.now }
+{
+    let [a, b, c, d] = four;
+    (a.key == key) | (b.key == key) | (c.key == key) | (d.key == key)
+}
+
 // Whether an entry has the key.
 pub fn touches_key(key: u32, entries: &[Entry]) -> bool
     ensures { result ≡ touches key entries.now }
 {
-    // Not `any`: nearly all of a hold's time (at most 25 µs) goes to this loop, and it takes half as long where it looks at all entries.
-    let mut found = false;
-    for e in entries {
-        found |= e.key == key;
+    // Nearly all of a hold's time (at most 25 µs) goes to this search. Few entries are searched faster one by one, many by fours.
+    if entries.len() < MANY {
+        return one_touches_key(key, entries);
     }
-    found
+    let (fours, rest) = entries.as_chunks::<4>();
+    fours.iter().any(|four| four_touch_key(key, four)) || one_touches_key(key, rest)
 }
 
 // Whether two lists have a key in common.
