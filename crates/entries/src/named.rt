@@ -67,6 +67,7 @@ impl NamedOrder {
     }
 
     // Whether both are one and the same order.
+    #[tactic(auto, unfolding(orders::specs::Order::same_entries))]
     pub fn is_same(&self, other: &NamedOrder) -> bool
         ensures { result ≡ same_order (named_of self.now) (named_of other.now) }
     {

@@ -5,7 +5,7 @@ use Rattle.entries.specs.Named.{named_of}
 use Rattle.entries.proofs.named.NamedOrder.record_len.Goals as goal
 
 pub returns-clause-held : goal.returns-clause-held
-returns-clause-held c = c.encoded_len.ensures ∙ sized (Held (named_of c.args.self.now))
+returns-clause-held c = omega (arith, c.encoded_len.ensures ∙ sized (Held (named_of c.args.self.now)))
 
 pub returns-clause-few : goal.returns-clause-few
 returns-clause-few c =
