@@ -82,7 +82,7 @@ impl Ledger {
         if self.held.len() >= MAX_HELD {
             return Err(Refusal::HoldingFull);
         }
-        if !self.has_room(Record::Held(order.name), &order.order) {
+        if self.bytes + order.record_len() > MAX_BYTES {
             return Err(Refusal::FileFull);
         }
         Ok(())
