@@ -1,6 +1,5 @@
 -- What the readers' answers stand for. Assumes nothing.
 use Rattle.std.specs.Prelude.{ℕ, ◌<◌, ◌≤◌, List, drop, Ok, Err, Result}
-use Rattle.protocol.specs.declared.Name.{Name}
 use Rattle.orders.specs.declared.Order.{Order as Slots}
 use Rattle.orders.specs.declared.Record.{Record}
 use Rattle.orders.specs.declared.Message.{Message}
@@ -9,8 +8,8 @@ use Rattle.orders.specs.declared.read.ReadError.{ReadError}
 use Rattle.orders.specs.declared.read.ReadError.TheVariants.{Cut, Refused}
 use Rattle.orders.specs.declared.input.Input.{Input}
 use Rattle.orders.specs.declared.records.Records.{Records}
-use Rattle.orders.specs.Order.{Order, Rec, Msg}
-use Rattle.orders.specs.Values.{order_of, rec_of, msg_of}
+use Rattle.orders.specs.Order.{Rec, Msg}
+use Rattle.orders.specs.Values.{rec_of, msg_of}
 use Rattle.orders.specs.Refusals.{number_of}
 use Rattle.orders.specs.File.{records}
 use Rattle.orders.specs.Parse.{Got, got, cut, bad, Taken, taken, refused}
@@ -29,12 +28,9 @@ abbrev pub read : {A B : Type 0} → (A → B) → Result A ReadError → Input 
 read f (Ok a) i = got (f a) (left i)
 read f (Err e) i = failed e
 
--- what a number, a name or an entry stands for
+-- what a number, a flag or a name stands for
 abbrev pub same : {A : Type 0} → A → A
 same a = a
-
-abbrev pub ordered : Name × Slots → Order
-ordered p = order_of p.0 p.1
 
 abbrev pub recorded : Record × Slots → Rec
 recorded p = rec_of p.0 p.1
@@ -51,6 +47,15 @@ record_read bs (Err e) = failed e
 abbrev pub RecordOn : ℕ → ℕ → Result (Record × Slots × ℕ) ReadError → Type 0
 RecordOn at len (Ok p) = (at < p.2) × (p.2 ≤ len)
 RecordOn at len (Err e) = Unit {0}
+
+-- the same of a record whose entries stand in the order s that was lent
+abbrev pub record_filled : List ℕ → Slots → Result (Record × ℕ) ReadError → Got Rec
+record_filled bs s (Ok p) = got (rec_of p.0 s) (drop p.1 bs)
+record_filled bs s (Err e) = failed e
+
+abbrev pub FilledOn : ℕ → ℕ → Result (Record × ℕ) ReadError → Type 0
+FilledOn at len (Ok p) = (at < p.1) × (p.1 ≤ len)
+FilledOn at len (Err e) = Unit {0}
 
 abbrev pub message_read : Result (Message × Slots) Refusal → Taken
 message_read (Ok p) = taken (posted p)

@@ -1,11 +1,12 @@
 // Bytes that are read from their front: each reader takes what it reads off them.
-ghost use Rattle.std.specs.Prelude.{◌≡◌, ◌≤◌, [], take, IfOk};
+ghost use Rattle.std.specs.Prelude.{◌≡◌, ◌≤◌, [], length, IfOk};
 ghost use Rattle.orders.specs.Parse.{byte as byte_in, number as number_in, count as count_in, flag as flag_in, name as name_in, entry as entry_in, entries as entries_in, order as order_in, form, mform, got};
-ghost use Rattle.orders.specs.Answers.{left, read, same, ordered, recorded, posted};
+ghost use Rattle.orders.specs.Answers.{left, read, same};
+ghost use Rattle.orders.specs.Values.{order_of, rec_of, msg_of};
 
 use crate::kind::Kind;
 use crate::read::ReadError;
-use crate::{Entry, MAX_ENTRIES, Message, NO_ENTRIES, Order, Record, Refusal};
+use crate::{Entry, MAX_ENTRIES, Message, Order, Record, Refusal};
 use protocol::Name;
 
 fn entry_of(bytes: &[u8; 8]) -> Entry
@@ -82,80 +83,71 @@ impl<'a> Input<'a> {
         })
     }
 
-    // So many entries, in the front of an array.
-    fn entries(&mut self, count: usize) -> Result<[Entry; 16], ReadError>
-        requires { count ≤ 16 }
-        ensures { read (take count) result self.new ≡ entries_in count (left self.old) }
+    // As many entries as are lent.
+    fn entries(&mut self, all: &mut [Entry]) -> Result<(), ReadError>
+        ensures { read (λ _. all.new) result self.new ≡ entries_in (length all.old) (left self.old) }
     {
-        let Some((front, rest)) = self.rest.split_at_checked(8 * count) else {
+        let Some((front, rest)) = self.rest.split_at_checked(8 * all.len()) else {
             return Err(ReadError::Cut);
         };
         self.rest = rest;
-        let mut all = [Entry { key: 0, amount: 0 }; 16];
         let (pieces, _) = front.as_chunks::<8>();
-        // Not `iter_mut().zip(pieces)`: its contract doesn't say what the array is once its entries are written.
+        // Not `iter_mut().zip(pieces)`: its contract doesn't say what the slice is once its entries are written.
         for (i, piece) in pieces.iter().enumerate() {
             all[i] = entry_of(piece);
         }
-        Ok(all)
+        Ok(())
     }
 
+    // An order's name; its entries into the order that is lent.
     #[tactic(auto, unfolding(crate::specs::Parse::order, crate::specs::Parse::body))]
-    fn order(&mut self) -> Result<(Name, Order), ReadError>
-        ensures { read ordered result self.new ≡ order_in (left self.old) }
+    fn order(&mut self, order: &mut Order) -> Result<Name, ReadError>
+        ensures { read (λ name. order_of name order.new) result self.new ≡ order_in (left self.old) }
     {
         let name = self.name()?;
         let read_count = self.count()?;
         let write_count = self.count()?;
-        let reads = self.entries(read_count)?;
-        let writes = self.entries(write_count)?;
-        let order = Order {
-            reads,
-            read_count,
-            writes,
-            write_count,
-        };
-        Ok((name, order))
+        // Beside the order and not in it: a field of a struct with an invariant is not lent as a slice.
+        let mut reads = [Entry { key: 0, amount: 0 }; 16];
+        let mut writes = reads;
+        self.entries(&mut reads[..read_count])?;
+        self.entries(&mut writes[..write_count])?;
+        order.reads = reads;
+        order.read_count = read_count;
+        order.writes = writes;
+        order.write_count = write_count;
+        Ok(name)
     }
 
-    // A record, whatever its numbers.
+    // A record, whatever its numbers; its entries, if it has any, into the order that is lent.
     #[tactic(auto, using(crate::proofs::OtherKinds::no_record, crate::proofs::OtherKinds::message_kind), unfolding(crate::specs::Parse::kind, crate::specs::Parse::form))]
-    pub fn record(&mut self) -> Result<(Record, Order), ReadError>
-        ensures { read recorded result self.new ≡ form (left self.old) }
+    pub fn record(&mut self, order: &mut Order) -> Result<Record, ReadError>
+        ensures { read (λ r. rec_of r order.new) result self.new ≡ form (left self.old) }
     {
         match Kind::try_from(self.byte()?)? {
-            Kind::Began => Ok((Record::Began, NO_ENTRIES)),
-            Kind::Held => {
-                let (name, order) = self.order()?;
-                Ok((Record::Held(name), order))
-            }
-            Kind::Done => Ok((Record::Done(self.name()?), NO_ENTRIES)),
-            Kind::Dropped => Ok((Record::Dropped(self.name()?), NO_ENTRIES)),
-            Kind::Ruled => {
-                let (name, order) = self.order()?;
-                Ok((Record::Ruled(name), order))
-            }
+            Kind::Began => Ok(Record::Began),
+            Kind::Held => Ok(Record::Held(self.order(order)?)),
+            Kind::Done => Ok(Record::Done(self.name()?)),
+            Kind::Dropped => Ok(Record::Dropped(self.name()?)),
+            Kind::Ruled => Ok(Record::Ruled(self.order(order)?)),
             Kind::Hold | Kind::Yes | Kind::Told => Err(ReadError::Refused(Refusal::BadForm)),
         }
     }
 
-    // A message, whatever its numbers.
+    // A message, whatever its numbers; its entries, if it has any, into the order that is lent.
     #[tactic(auto, using(crate::proofs::OtherKinds::no_message, crate::proofs::OtherKinds::record_kind), unfolding(crate::specs::Parse::mkind, crate::specs::Parse::mform))]
-    pub fn message(&mut self) -> Result<(Message, Order), ReadError>
-        ensures { read posted result self.new ≡ mform (left self.old) }
+    pub fn message(&mut self, order: &mut Order) -> Result<Message, ReadError>
+        ensures { read (λ m. msg_of m order.new) result self.new ≡ mform (left self.old) }
     {
         match Kind::try_from(self.byte()?)? {
-            Kind::Hold => {
-                let (name, order) = self.order()?;
-                Ok((Message::Hold(name), order))
-            }
+            Kind::Hold => Ok(Message::Hold(self.order(order)?)),
             Kind::Yes => {
                 let house = self.byte()?;
-                Ok((Message::Yes(house, self.name()?), NO_ENTRIES))
+                Ok(Message::Yes(house, self.name()?))
             }
             Kind::Told => {
                 let done = self.flag()?;
-                Ok((Message::Told(done, self.name()?), NO_ENTRIES))
+                Ok(Message::Told(done, self.name()?))
             }
             Kind::Began | Kind::Held | Kind::Done | Kind::Dropped | Kind::Ruled => {
                 Err(ReadError::Refused(Refusal::BadForm))

@@ -3,8 +3,8 @@ ghost use Rattle.std.specs.Prelude.{◌≡◌};
 ghost use Rattle.orders.specs.Values.{order_of, rec_of};
 ghost use Rattle.scan.specs.Checksum.{plus, plus_name, plus_entry, plus_order, plus_rec, Sums};
 
-use orders::records::Records;
-use orders::{Entry, Order, Record};
+use orders::read::record_into;
+use orders::{Entry, NO_ENTRIES, Order, Record};
 use protocol::Name;
 
 fn add(sum: u64, value: u32) -> u64
@@ -50,5 +50,13 @@ fn add_record(sum: u64, record: Record, order: &Order) -> u64
 pub fn scan_checksum(houses: u8, bytes: &[u8]) -> u64
     ensures { Sums houses bytes.now result }
 {
-    Records::new(houses, bytes).fold(0, |sum, (record, order)| add_record(sum, record, &order))
+    // Not a walk by Records: that hands out an order with each record, and to move one takes a memcpy, which callers in C would have to bring.
+    let mut order = NO_ENTRIES;
+    let mut at = 0;
+    let mut sum = 0;
+    while let Ok((record, next)) = record_into(houses, bytes, at, &mut order) {
+        sum = add_record(sum, record, &order);
+        at = next;
+    }
+    sum
 }

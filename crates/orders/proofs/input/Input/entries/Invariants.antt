@@ -4,5 +4,5 @@ use Rattle.orders.proofs.input.Input.entries.Given as goal
 
 abbrev pub invariant-loop-i : goal.invariant-loop-i
 invariant-loop-i l =
-    let front = take (8 * l.count) l.fn.self.rest.now in
-    (length l.all ≡ 16) × (entries l.i front ≡ got (take l.i l.all) (drop (8 * l.i) front))
+    let front = take (8 * length l.fn.all) l.fn.self.rest.now in
+    entries l.i front ≡ got (take l.i l.all) (drop (8 * l.i) front)

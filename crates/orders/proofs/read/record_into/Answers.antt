@@ -1,6 +1,6 @@
 use Rattle.std.proofs.Common.{arith}
 use Rattle.orders.proofs.Behind.{past-end, behind-within, behind-on, behind-is}
-use Rattle.orders.proofs.read.record_at.Goals as goal
+use Rattle.orders.proofs.read.record_into.Goals as goal
 
 pub returns-in_default-clause-value : goal.returns-in_default-clause-value
 returns-in_default-clause-value c = past-end c.args.houses c.args.bytes.now c.args.at (omega (arith, c.in_default.ensures.lookup))
