@@ -1,3 +1,4 @@
+pub mod Grown
+pub mod Homes
 pub mod Firsts
-pub mod Sent
 pub mod Found

@@ -1,4 +1,5 @@
 pub mod First
 pub mod Holds
-pub mod Pairs
+pub mod Places
 pub mod Posted
+pub mod Yeses

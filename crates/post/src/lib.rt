@@ -11,21 +11,24 @@ ghost use Rattle.entries.specs.Named.{named_of};
 
 use entries::named::NamedOrder;
 use holds::Holds;
+use names::NameIndex;
 use orders::{Message, Order};
 use protocol::Name;
 use std::alloc::{AllocError, Global};
-use std::collections::BTreeSet;
+use yeses::Yeses;
 
 mod holds;
+mod places;
+mod yeses;
 
 // The messages sent.
 #[derive(Drop)]
 pub struct Post {
     holds: Holds,
-    // the houses that said yes, and the names to which they said it
-    yeses: BTreeSet<(u8, Name)>,
-    // whether the order is done, and its name
-    told: BTreeSet<(bool, Name)>,
+    yeses: Yeses,
+    // the orders of which it was told that they are done, and that they are not
+    told_yes: NameIndex,
+    told_no: NameIndex,
 }
 
 impl Post {
@@ -39,8 +42,9 @@ impl Post {
     {
         Post {
             holds: Holds::new(heap),
-            yeses: BTreeSet::new(heap),
-            told: BTreeSet::new(heap),
+            yeses: Yeses::new(heap),
+            told_yes: NameIndex::new(heap),
+            told_no: NameIndex::new(heap),
         }
     }
 
@@ -54,14 +58,9 @@ impl Post {
                 name,
                 order: *order,
             }),
-            Message::Yes(house, name) => {
-                self.yeses.insert((house, name))?;
-                Ok(())
-            }
-            Message::Told(done, name) => {
-                self.told.insert((done, name))?;
-                Ok(())
-            }
+            Message::Yes(house, name) => self.yeses.insert(house, name),
+            Message::Told(true, name) => self.told_yes.insert(name),
+            Message::Told(false, name) => self.told_no.insert(name),
         }
     }
 
@@ -76,14 +75,18 @@ impl Post {
     pub fn has_yes(&self, house: u8, name: Name) -> bool
         ensures { result ≡ posted self.now (Yes house name) }
     {
-        self.yeses.contains(&(house, name))
+        self.yeses.contains(house, name)
     }
 
     // Whether it was told that the order is done, or that it is not.
     pub fn has_told(&self, done: bool, name: Name) -> bool
         ensures { result ≡ posted self.now (Told name done) }
     {
-        self.told.contains(&(done, name))
+        if done {
+            self.told_yes.contains(name)
+        } else {
+            self.told_no.contains(name)
+        }
     }
 }
 
